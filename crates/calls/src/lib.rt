@@ -1,0 +1,1 @@
+// No code: all calls as one step, and the worlds that they reach.

@@ -1,0 +1,5 @@
+pub mod Links
+pub mod Steps
+pub mod Walk
+pub mod Seek
+pub mod Files

@@ -1,0 +1,45 @@
+-- A reply made of what a call handed back says what the call's definition says. Assumes nothing.
+use mathlib.Core.Path.{_≡_, ap, _∙_}
+use mathlib.Core.List.{List}
+use Prim.Native.Nat.{ℕ}
+use Rattle.state.specs.declared.types.Table.{Table}
+use Rattle.state.specs.declared.types.Done.{Done}
+use Rattle.state.specs.declared.types.Out.{Out}
+use Rattle.state.specs.World.{After, before, after}
+use Rattle.reader.specs.declared.ReadOut.{ReadOut}
+use Rattle.reader.specs.Read.{AfterRead, afterRead}
+use Rattle.search.specs.declared.Answer.{Answer}
+use Rattle.search.specs.declared.SearchOut.{SearchOut}
+use Rattle.search.specs.Told.{afterSearch}
+use Rattle.export.specs.declared.replies.Reply.{Reply}
+use Rattle.export.specs.declared.replies.SeqReply.{SeqReply}
+use Rattle.export.specs.declared.replies.SearchReply.{SearchReply}
+use Rattle.export.specs.Replies.{codeOf, replyOf, Replied, readReply, ReadReplied, answerCode, offers, answerSeq, soughtReply, SearchReplied}
+
+-- of a call that changes
+pub replied-is : (r : Reply) (o : Out) (i m : List ℕ) (a : After Done) → r ≡ replyOf o → after o i m ≡ a → Replied r i m a
+replied-is r o i m a e f =
+    record {
+      code = ap (λ (x : Reply). x .code) e ∙ ap (λ (x : After Done). codeOf (x .answer)) f;
+      world = ap (λ (x : Reply). before i m (x .table) (x .state)) e ∙ ap (λ (x : After Done). x .world) f;
+    }
+
+-- of a read
+pub read-is : (r : SeqReply) (o : ReadOut) (out : List ℕ) (a : AfterRead) → r ≡ readReply o → afterRead o out ≡ a → ReadReplied r out a
+read-is r o out a e f =
+    record {
+      code = ap (λ (x : SeqReply). x .code) e ∙ ap (λ (x : AfterRead). codeOf (x .answer)) f;
+      seq = ap (λ (x : SeqReply). x .seq) e ∙ ap (λ (x : AfterRead). x .reader .seq) f;
+      output = ap (λ (x : AfterRead). x .out) f;
+    }
+
+-- of a search
+pub sought-is : (r : SearchReply) (o : SearchOut) (i m : List ℕ) (t : Table) (a : After Answer) → r ≡ soughtReply o → afterSearch o i m t ≡ a
+    → SearchReplied r i m t a
+sought-is r o i m t a e f =
+    record {
+      code = ap (λ (x : SearchReply). x .code) e ∙ ap (λ (x : After Answer). answerCode (x .answer)) f;
+      offer = ap (λ (x : SearchReply). x .offer) e ∙ ap (λ (x : After Answer). offers (x .answer)) f;
+      seq = ap (λ (x : SearchReply). x .seq) e ∙ ap (λ (x : After Answer). answerSeq (x .answer)) f;
+      world = ap (λ (x : SearchReply). before i m t (x .state)) e ∙ ap (λ (x : After Answer). x .world) f;
+    }

@@ -1,0 +1,18 @@
+-- `export::mv_flags` meets its contract: by what the call ensures.
+-- Assumes nothing.
+use Rattle.export.proofs.Told.{replied-is}
+use borrow.Author.Needs.{needs}
+use Rattle.export.proofs.mv_flags.Statement.{statement}
+use Rattle.export.proofs.mv_flags.Tie as tie
+
+flags-out-requires : tie.Need-flags-out-requires
+flags-out-requires c κs = search needs
+
+reply-of-requires : tie.Need-reply-of-requires
+reply-of-requires c κs = search needs
+
+returns : tie.Need-returns
+returns c = replied-is _ _ _ _ _ (c .reply-of .ensures) (c .before .flags-out .ensures)
+
+pub mv-flags-spec : {M : Type 1} → statement M
+mv-flags-spec = tie.close (tie.spec flags-out-requires reply-of-requires returns)

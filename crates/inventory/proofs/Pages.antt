@@ -1,0 +1,26 @@
+-- The pages of a walk, counted step by step. Assumes nothing.
+use mathlib.Core.Path.{_≡_, refl, ap, _∙_}
+use mathlib.Core.List.{List, [], _∷_}
+use Prim.Native.Nat.{ℕ, _+_, suc}
+use native.Mathlib.Omega.{arith}
+use lib.ListN.{length}
+use Rattle.chain.specs.declared.PagePointer.{PagePointer}
+use Rattle.chain.specs.Steps.{Sought, damaged, at, Trace, stop, through}
+use Rattle.inventory.specs.Inventory.{pagesBy}
+
+abbrev pub counted : ℕ → Trace → ℕ
+counted n t = pagesBy n (t .path) (t .ends)
+
+-- a walk that stays has no page more, one that breaks counts none, one that goes on counts the page that it reaches
+pub counted-stays : (n : ℕ) (t : Trace) (p : PagePointer) → t ≡ stop (at p) → n ≡ counted n t
+counted-stays n t p e = rw e (omega arith)
+
+pub counted-breaks : (n : ℕ) (t : Trace) → t .ends ≡ damaged → 0 ≡ counted n t
+counted-breaks n t e = rw e
+
+pub counted-reaches : (n j : ℕ) (t u : Trace) → t ≡ through j u → counted (n + 1) u ≡ counted n t
+counted-reaches n j t u e = rw e (by (u .ends))
+  where
+    by : (s : Sought) → pagesBy (n + 1) (u .path) s ≡ pagesBy n (j ∷ u .path) s
+    by damaged = refl
+    by (at q) = omega arith

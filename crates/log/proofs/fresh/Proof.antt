@@ -1,0 +1,11 @@
+-- `log::fresh` meets its contract.
+-- Assumes nothing.
+use borrow.Author.Needs.{needs}
+use Rattle.log.proofs.fresh.Statement.{statement}
+use Rattle.log.proofs.fresh.Tie as tie
+
+returns : tie.Need-returns
+returns c = rw (c .no-files .ensures)
+
+pub fresh-spec : {M : Type 1} → statement M
+fresh-spec = tie.close (tie.spec (λ c κs. search needs) returns)

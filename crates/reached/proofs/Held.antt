@@ -1,0 +1,111 @@
+-- In every world that calls reach from a format the invariant holds with the link rule, so that it counts as mounted. Assumes nothing.
+use Rattle.state.specs.declared.types.Done.the-variants.{Done as Fine, Refused}
+use Rattle.state.specs.World.{World, Outcome, ended, result, refuse}
+use Rattle.seq.specs.Seed.{seedAfter}
+use Rattle.volume.specs.Format as volume-format
+use Rattle.volume.specs.Mount as volume-mount
+use Rattle.volume.specs.Mount.{Maybe, bad, good, LoadedAll}
+use Rattle.volume.specs.Scan.{scan}
+use Rattle.calls.specs.Calls as calls
+use Rattle.calls.specs.Calls.{Call, step, Reach, starts, goes, FromFormat}
+use Prim.Native.Nat.{ℕ, _*_, _≤_}
+use mathlib.Core.Path.{_≡_, refl, sym, subst}
+use mathlib.Core.Bool.{true}
+use mathlib.Core.List.{map}
+use lib.ListN.{length}
+use Rattle.state.specs.declared.types.Done.{Done}
+use Rattle.agree.specs.Good.{Known}
+use Rattle.agree.specs.Rules.{ChainOf}
+use Rattle.agree.specs.View.{view}
+use Rattle.agree.proofs.Commit.{commit-keeps}
+use Rattle.agree.proofs.Counts.{good-mounted}
+use Rattle.agree.proofs.Finish.{finish-keeps, discard-keeps}
+use Rattle.agree.proofs.Format.{format-known}
+use Rattle.agree.proofs.Found.{mount-finds}
+use Rattle.agree.proofs.Keeps.{cond-by, known, start-keeps, left-keeps, right-keeps, flags-keeps, rename-keeps, record-end-keeps}
+use Rattle.agree.proofs.Mount.{mount-known}
+use Rattle.agree.proofs.Open.{open-keeps}
+use Rattle.agree.proofs.Pages.{clash}
+use Rattle.agree.proofs.Truncate.{truncate-keeps}
+use Rattle.agree.proofs.Writes.{write-keeps}
+use Rattle.owners.specs.State.{Base, Mounted}
+use Rattle.owners.proofs.Finding.{mounted-one}
+use Rattle.page.specs.Page.{Bytes}
+use Rattle.state.specs.Checks.{sizes, isMounted}
+use Rattle.state.proofs.Laws.{sizes-say}
+use Rattle.chain.specs.Steps.{seek}
+use Rattle.chain.proofs.Seeks.{right}
+use Rattle.chain.proofs.Written.{image}
+
+abbrev pub Held : World → Type 0
+Held w = Known (Unit {0}) (length (w .map)) w
+
+known-held : {N : ℕ} {w : World} → Known (Unit {0}) N w → Held w
+known-held {N} {w} k = subst (λ (n : ℕ). Known (Unit {0}) n w) (sym (k .good .sees .owners .size)) k
+
+-- ---- FORMAT
+
+formatted-held : (w : World) → Bytes (w .image) → sizes (length (w .image)) (length (w .map)) ≡ true → Held (ended w (volume-format.formatted w (length (w .map)) (seedAfter (w .state .seed))) .world)
+formatted-held w bs e =
+    let z = sizes-say (length (w .image)) (length (w .map)) e in
+    known-held (format-known (Unit {0}) w bs (length (w .map)) (seedAfter (w .state .seed)) refl (z .2) (z .0) (z .1))
+
+starts-held : (w : World) → Bytes (w .image) → volume-format.format w .answer ≡ Fine → Held (result volume-format.format w .world)
+unfolding volume-format.format
+starts-held w bs =
+    cond-by (λ (o : Outcome Done). o .answer ≡ Fine → Held (ended w o .world)) (sizes (length (w .image)) (length (w .map))) _ _ (λ e h. formatted-held w bs e) (λ e h. clash cc)
+
+format-held : (w : World) → Held w → Held (result volume-format.format w .world)
+unfolding volume-format.format
+format-held w k =
+    cond-by (λ (o : Outcome Done). Held (ended w o .world)) (sizes (length (w .image)) (length (w .map))) _ _ (λ e. formatted-held w (k .good .sees .bytes) e) (λ e. k)
+
+-- ---- MOUNT: it finds what was committed
+
+mount-held : (w : World) → Held w → Held (result volume-mount.mount w .world)
+unfolding volume-mount.mount volume-mount.mountWith volume-mount.mountBest
+mount-held w k =
+    cond-by (λ (o : Outcome Done). Held (ended w o .world)) (sizes (length (w .image)) (length (w .map))) _ _
+    (λ e. by (sizes-say (length (w .image)) (length (w .map)) e) (volume-mount.mountFrom (w .image) (length (w .map)) (scan (w .image) (length (w .map)))) refl) (λ e. k)
+  where
+    rules : Unit {0} → (b : Base) → Mounted (length (w .map)) (view (w .image)) b → (i : ℕ) → ChainOf (w .image) (b .pc) (b .tab i)
+    rules d b m i =
+        let s = mounted-one (k .good .inv .mounted) m in
+        subst (λ (c : ℕ). ChainOf (w .image) c (b .tab i)) (s .pc) (subst (ChainOf (w .image) (k .base .pc)) (s .tab i) (k .good .rules tt .base i))
+
+    by : (4 ≤ length (w .map)) × (length (w .map) ≤ 1024) × (length (w .image) ≡ 256 * length (w .map)) → (x : Maybe LoadedAll) → volume-mount.mountFrom (w .image) (length (w .map)) (scan (w .image) (length (w .map))) ≡ x
+        → Held (ended w (volume-mount.mountedAs w (length (w .map)) (seedAfter (w .state .seed)) (scan (w .image) (length (w .map))) x) .world)
+    by z bad h = let f = mount-finds (w .image) (k .good .inv .mounted) (k .good .sees .bytes) in clash (cc (f .is))
+    by z (good x) h = known-held (mount-known (Unit {0}) w (k .good .sees .bytes) (length (w .map)) (seedAfter (w .state .seed)) x rules (z .2) (z .0) (z .1) h)
+
+-- ---- EVERY CALL
+
+pub step-held : (c : Call) (w : World) → Held w → Held (step c w)
+unfolding step
+step-held calls.format w k = format-held w k
+step-held calls.mount w k = mount-held w k
+step-held (calls.locate i n) w k = k
+step-held (calls.read r n) w k = k
+step-held (calls.skip r n) w k = k
+step-held (calls.seek i n) w k = k
+step-held (calls.search i) w k = known-held (start-keeps (k .good) i)
+step-held calls.left w k = known-held (left-keeps (k .good))
+step-held calls.right w k = known-held (right-keeps (k .good))
+step-held (calls.open-writer i) w k = known-held (open-keeps (k .good) i)
+step-held (calls.write l ok) w k = known-held (write-keeps (k .good) l ok)
+step-held calls.record-end w k = known-held (record-end-keeps (k .good))
+step-held calls.finish w k = known-held (finish-keeps (k .good))
+step-held calls.discard w k = known-held (discard-keeps (k .good))
+step-held (calls.truncate i n) w k = known-held (truncate-keeps (k .good) i n)
+step-held (calls.rename i j) w k = known-held (rename-keeps (k .good) i j)
+step-held (calls.flags i n ok) w k = known-held (flags-keeps (k .good) i n ok)
+step-held calls.commit w k = known-held (commit-keeps (k .good) .known)
+
+-- demand 3's worlds
+pub format-reached : {w : World} → FromFormat w → Held w
+format-reached (starts f) = subst Held (sym (f .left)) (starts-held (f .from) (f .bytes) (f .done))
+format-reached (goes {w = w} c r) = step-held c w (format-reached r)
+
+-- they all count as mounted
+pub format-mounted : {w : World} → FromFormat w → isMounted (w .state) ≡ true
+format-mounted r = good-mounted (format-reached r .good)

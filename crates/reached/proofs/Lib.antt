@@ -1,0 +1,12 @@
+pub mod Reach
+pub mod Partition
+pub mod Demand2
+pub mod Held
+pub mod Demand3
+pub mod Drafts
+pub mod Tells
+pub mod Sessions
+pub mod Ledgers
+pub mod Opens
+pub mod Noted
+pub mod Written

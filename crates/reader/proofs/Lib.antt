@@ -1,0 +1,4 @@
+pub mod Exits
+pub mod Bytes
+pub mod Places
+pub mod Live

@@ -1,0 +1,12 @@
+-- `reader::seek` meets its contract.
+-- Assumes nothing.
+use Rattle.reader.proofs.Exits.{seek-is}
+use borrow.Author.Needs.{needs}
+use Rattle.reader.proofs.seek.Statement.{statement}
+use Rattle.reader.proofs.seek.Tie as tie
+
+returns : tie.Need-returns
+returns c = seek-is _ _ _ _ _ (c .before .reader-of .ensures) (c .skip .ensures)
+
+pub seek-spec : {M : Type 1} → statement M
+seek-spec = tie.close (tie.spec (λ c κs. search needs) (λ c κs. search needs) returns)

@@ -1,0 +1,5 @@
+pub mod Locate
+pub mod Read
+pub mod Skip
+pub mod Turn
+pub mod Ask

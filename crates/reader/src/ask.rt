@@ -1,0 +1,91 @@
+// Small questions of a reader, of the files and of the pages. All are total: a file above 7 is empty.
+use crate::Reader;
+use seq::numbers::Answer;
+use state::types::State;
+use state::types::Table;
+ghost use mathlib.Core.Path.{_≡_};
+ghost use Rattle.seq.specs.Seq.{reply};
+ghost use Rattle.reader.specs.Ask.{readerAt, offsetSays, emptyAt, flagsAt, hasFlag, withFlag, freePages, usedPages};
+
+// A new reader of a file.
+pub fn reader_of(table: Table, file: u8) -> Reader
+    ensures { λ r. ⌜ r ≡ readerAt table file ⌝ }
+{
+    if 7 < file {
+        return Reader { file, seq: 0 };
+    }
+    let f = table.files[file as usize];
+    Reader {
+        file,
+        seq: f.first_seq,
+    }
+}
+
+// How far behind the file's first number a reader stands, and Range before it.
+pub fn offset(table: Table, reader: Reader) -> Answer
+    ensures { λ r. ⌜ reply r ≡ offsetSays table reader ⌝ }
+{
+    let first = reader_of(table, reader.file);
+    seq::numbers::seq_sub(reader.seq, first.seq)
+}
+
+pub fn curr_seq(reader: Reader) -> u32
+    ensures { λ r. ⌜ r ≡ reader .seq ⌝ }
+{
+    reader.seq
+}
+
+pub fn is_empty(table: Table, file: u8) -> bool
+    ensures { λ r. ⌜ r ≡ emptyAt table file ⌝ }
+{
+    if 7 < file {
+        return true;
+    }
+    let f = table.files[file as usize];
+    f.last_page == seq::ids::NONE
+}
+
+pub fn file_flags(table: Table, file: u8) -> u8
+    ensures { λ r. ⌜ r ≡ flagsAt table file ⌝ }
+{
+    if 7 < file {
+        return 0;
+    }
+    let f = table.files[file as usize];
+    f.flags
+}
+
+fn has_flag(table: Table, file: u8, flag: u8) -> bool
+    ensures { λ r. ⌜ r ≡ hasFlag table flag file ⌝ }
+{
+    file_flags(table, file) & flag != 0
+}
+
+// The files that have one of the flags, by their ids.
+pub fn files_with_flag(table: Table, flag: u8) -> [bool; 8]
+    ensures { λ r. ⌜ r ≡ withFlag table flag ⌝ }
+{
+    [
+        has_flag(table, 0, flag),
+        has_flag(table, 1, flag),
+        has_flag(table, 2, flag),
+        has_flag(table, 3, flag),
+        has_flag(table, 4, flag),
+        has_flag(table, 5, flag),
+        has_flag(table, 6, flag),
+        has_flag(table, 7, flag),
+    ]
+}
+
+pub fn free_pages(map: &[u8], state: State) -> usize
+    ensures { λ r. ⌜ r ≡ freePages (now (map .entry)) state ⌝ }
+{
+    map::count_free(map, state.page_count as usize)
+}
+
+// The pages that are not free.
+pub fn used_pages(map: &[u8], state: State) -> usize
+    ensures { λ r. ⌜ r ≡ usedPages (now (map .entry)) state ⌝ }
+{
+    (state.page_count as usize) - free_pages(map, state)
+}

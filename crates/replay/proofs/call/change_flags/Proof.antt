@@ -1,0 +1,18 @@
+-- `replay::call::change_flags` meets its contract: the check says which case it is.
+-- Assumes nothing.
+use borrow.Author.Needs.{needs}
+use mathlib.Core.Path.{sym, _∙_}
+use Rattle.transact.specs.Rename.{flags}
+use Rattle.replay.proofs.call.change_flags.Statement.{statement}
+use Rattle.replay.proofs.call.change_flags.Tie as tie
+
+returns : tie.Need-returns
+unfolding flags
+returns c = rw ((sym (c .before .before .before .check .ensures) ∙ c .before .seen .given .1))
+
+returns-2 : tie.Need-returns-2
+unfolding flags
+returns-2 c = rw ((sym (c .before .before .before .before .check .ensures) ∙ c .before .before .enum-told .given .1), c .before .table-flags .ensures, c .open-transaction .ensures)
+
+pub change-flags-spec : {M : Type 1} → statement M
+change-flags-spec = tie.close (tie.spec (λ c κs. search needs) (λ c. search needs) returns (λ c. search needs) (λ c κs. search needs) (λ c κs. search needs) returns-2)

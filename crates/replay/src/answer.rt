@@ -1,0 +1,151 @@
+// The answer to a command: the world that it leaves, with the answer's text in the output buffer.
+use crate::call;
+use crate::say;
+use crate::show;
+use crate::world;
+use crate::world::Turn;
+use crate::world::World;
+use script::command::Command;
+use script::command::Setup;
+ghost use Prim.Native.Nat.{_≤_};
+
+fn least(a: usize, b: usize) -> usize
+    ensures { λ r. ⌜ r ≤ b ⌝ }
+{
+    if a < b { a } else { b }
+}
+
+fn poke(target: &mut [u8], offset: usize, run: &[u8], out: &mut [u8], at: usize) -> usize {
+    if target.len() < offset {
+        return say::bad(out, at);
+    }
+    if target.len() - offset < run.len() {
+        return say::bad(out, at);
+    }
+    runs::place(target, offset, run);
+    say::ok(out, at)
+}
+
+// The commands that are no calls, on the whole buffers.
+fn on_setup(
+    image: &mut [u8],
+    map: &mut [u8],
+    bytes: &[u8],
+    out: &mut [u8],
+    at: usize,
+    world: World,
+    what: Setup,
+) -> Turn {
+    match what {
+        Setup::Lend(i, m) => {
+            let mut next = world;
+            next.image = i as usize;
+            next.map = m as usize;
+            Turn {
+                world: next,
+                at: say::ok(out, at),
+            }
+        }
+        Setup::New(seed) => {
+            let next = world::fresh(seed, world.image, world.map);
+            Turn {
+                world: next,
+                at: say::ok(out, at),
+            }
+        }
+        Setup::Blank => {
+            runs::fill(image, 255);
+            runs::fill(map, 0);
+            Turn {
+                world,
+                at: say::ok(out, at),
+            }
+        }
+        Setup::Poke(offset, n) => Turn {
+            world,
+            at: poke(image, offset as usize, runs::part_of(bytes, 0, n), out, at),
+        },
+        Setup::PokeMap(offset, n) => Turn {
+            world,
+            at: poke(map, offset as usize, runs::part_of(bytes, 0, n), out, at),
+        },
+    }
+}
+
+// The others, on what is lent of the buffers.
+fn on_lent(
+    image: &mut [u8],
+    map: &mut [u8],
+    bytes: &mut [u8],
+    out: &mut [u8],
+    at: usize,
+    world: World,
+    command: Command,
+) -> Turn {
+    match command {
+        Command::Volume(what) => call::on_volume(image, map, out, at, world, what),
+        Command::Reading(what) => Turn {
+            world,
+            at: call::on_reading(image, map, bytes, out, at, world, what),
+        },
+        Command::Searching(what) => call::on_searching(image, map, out, at, world, what),
+        Command::Writing(what) => call::on_writing(image, map, bytes, out, at, world, what),
+        Command::Files(what) => call::on_files(image, map, out, at, world, what),
+        Command::Show(what) => {
+            let table = world.table;
+            let state = world.state;
+            Turn {
+                world,
+                at: show::on_show(image, map, out, at, table, state, what),
+            }
+        }
+        Command::Helper(what) => Turn {
+            world,
+            at: call::on_helper(out, at, what),
+        },
+        Command::Bad => Turn {
+            world,
+            at: say::bad(out, at),
+        },
+        Command::Setup(_) => Turn { world, at },
+        Command::Nothing => Turn { world, at },
+    }
+}
+
+fn on_command(
+    image: &mut [u8],
+    map: &mut [u8],
+    bytes: &mut [u8],
+    out: &mut [u8],
+    at: usize,
+    world: World,
+    command: Command,
+) -> Turn {
+    if let Command::Setup(what) = command {
+        return on_setup(image, map, bytes, out, at, world, what);
+    }
+    let i = least(world.image, image.len());
+    let m = least(world.map, map.len());
+    on_lent(
+        &mut image[0..i],
+        &mut map[0..m],
+        bytes,
+        out,
+        at,
+        world,
+        command,
+    )
+}
+
+pub fn answer(
+    image: &mut [u8],
+    map: &mut [u8],
+    line: &[u8],
+    bytes: &mut [u8],
+    out: &mut [u8],
+    at: usize,
+    world: World,
+) -> Turn {
+    let command = script::command::command_of(line, bytes);
+    on_command(image, map, bytes, out, at, world, command)
+}

@@ -1,0 +1,276 @@
+// The calls, each with its answer put into the output buffer.
+use crate::say;
+use crate::world::Turn;
+use crate::world::World;
+use reader::Located;
+use reader::Reader;
+use reader::Skipped;
+use script::command::Files;
+use script::command::Helper;
+use script::command::Reading;
+use script::command::Searching;
+use script::command::Volume;
+use script::command::Writing;
+use search::SearchOut;
+use state::types::Done;
+use state::types::Out;
+use state::types::State;
+use state::types::Table;
+ghost use mathlib.Core.Path.{_≡_};
+ghost use Rattle.state.specs.World.{before, after, result};
+ghost use Rattle.transact.specs.Rename.{flags as changedBy};
+
+// What a call hands back is the world from then on.
+fn told(out: &mut [u8], at: usize, world: World, r: Out) -> Turn {
+    let answer = r.answer;
+    let table = r.table;
+    let state = r.state;
+    let next = say::done(out, at, answer);
+    let world = World {
+        table,
+        state,
+        image: world.image,
+        map: world.map,
+    };
+    Turn { world, at: next }
+}
+
+pub fn on_volume(
+    image: &mut [u8],
+    map: &mut [u8],
+    out: &mut [u8],
+    at: usize,
+    world: World,
+    what: Volume,
+) -> Turn {
+    let table = world.table;
+    let state = world.state;
+    match what {
+        Volume::Format => {
+            let r = volume::format(image, map, table, state);
+            told(out, at, world, r)
+        }
+        Volume::Mount => {
+            let r = volume::mount(image, map, table, state);
+            told(out, at, world, r)
+        }
+    }
+}
+
+fn said_located(out: &mut [u8], at: usize, found: Located) -> usize {
+    match found {
+        Located::At(page, count) => { say::two(out, at, b"at % %\n", page as u64, count) }
+        Located::Refused(why) => say::refused(out, at, why),
+    }
+}
+
+fn said_skipped(out: &mut [u8], at: usize, skipped: Skipped) -> usize {
+    match skipped {
+        Skipped::To(seq) => say::one(out, at, b"to %\n", seq),
+        Skipped::Refused(why) => say::refused(out, at, why),
+    }
+}
+
+// What is read goes by way of the lent bytes.
+fn read(
+    image: &[u8],
+    map: &[u8],
+    bytes: &mut [u8],
+    out: &mut [u8],
+    at: usize,
+    table: Table,
+    state: State,
+    from: Reader,
+    n: usize,
+) -> usize {
+    if bytes.len() < n {
+        return say::bad(out, at);
+    }
+    let r = reader::read(image, map, table, state, from, &mut bytes[0..n]);
+    let answer = r.answer;
+    match answer {
+        Done::Done => say::hex(out, at, b"bytes", runs::part_of(bytes, 0, n)),
+        Done::Refused(why) => say::refused(out, at, why),
+    }
+}
+
+pub fn on_reading(
+    image: &[u8],
+    map: &[u8],
+    bytes: &mut [u8],
+    out: &mut [u8],
+    at: usize,
+    world: World,
+    what: Reading,
+) -> usize {
+    let table = world.table;
+    let state = world.state;
+    match what {
+        Reading::Locate(file, seq) => {
+            said_located(out, at, reader::locate(image, map, table, state, file, seq))
+        }
+        Reading::Read(file, seq, n) => {
+            read(
+                image,
+                map,
+                bytes,
+                out,
+                at,
+                table,
+                state,
+                Reader { file, seq },
+                n,
+            )
+        }
+        Reading::Skip(file, seq, n) => {
+            said_skipped(
+                out,
+                at,
+                reader::skip(image, map, table, state, Reader { file, seq }, n),
+            )
+        }
+    }
+}
+
+fn said_searched(out: &mut [u8], at: usize, answer: search::Answer) -> usize {
+    match answer {
+        search::Answer::Offer(seq) => say::one(out, at, b"offer %\n", seq),
+        search::Answer::End(seq) => say::one(out, at, b"end %\n", seq),
+        search::Answer::Refused(why) => say::refused(out, at, why),
+    }
+}
+
+pub fn on_searching(
+    image: &[u8],
+    map: &[u8],
+    out: &mut [u8],
+    at: usize,
+    world: World,
+    what: Searching,
+) -> Turn {
+    let table = world.table;
+    let state = world.state;
+    let r: SearchOut = match what {
+        Searching::Search(file) => search::search::search(image, map, table, state, file),
+        Searching::Left => search::search::left(image, map, table, state),
+        Searching::Right => search::search::right(image, map, table, state),
+    };
+    let answer = r.answer;
+    let state = r.state;
+    let next = said_searched(out, at, answer);
+    let world = World {
+        table,
+        state,
+        image: world.image,
+        map: world.map,
+    };
+    Turn { world, at: next }
+}
+
+pub fn on_writing(
+    image: &mut [u8],
+    map: &mut [u8],
+    bytes: &[u8],
+    out: &mut [u8],
+    at: usize,
+    world: World,
+    what: Writing,
+) -> Turn {
+    let table = world.table;
+    let state = world.state;
+    match what {
+        Writing::Open(file) => {
+            let r = writer::open::open(image, map, table, state, file);
+            told(out, at, world, r)
+        }
+        Writing::Write(n) => {
+            let r = writer::write::write(image, map, table, state, runs::part_of(bytes, 0, n));
+            told(out, at, world, r)
+        }
+        Writing::End => {
+            let r = writer::write::record_end(image, map, table, state);
+            told(out, at, world, r)
+        }
+        Writing::Finish => {
+            let r = writer::finish::finish(image, map, table, state);
+            told(out, at, world, r)
+        }
+        Writing::Discard => {
+            let r = writer::finish::discard(image, map, table, state);
+            told(out, at, world, r)
+        }
+    }
+}
+
+// Flags by value. transact changes them in the caller's own table, lent by `&mut`, which only a proof by hand could lend from here:
+// the table goes in and comes back instead, by the same definition.
+fn change_flags(image: &[u8], map: &[u8], table: Table, state: State, file: u8, flags: u8) -> Out
+    ensures { λ r. ⌜ after r (now (image .entry)) (now (map .entry))
+        ≡ result (λ w. changedBy w file flags) (before (now (image .entry)) (now (map .entry)) table state) ⌝ }
+{
+    let writer = state.writer;
+    let seen = state::checks::check(image.len(), map.len(), state, writer.active, file);
+    if let Done::Refused(why) = seen {
+        return Out {
+            answer: Done::Refused(why),
+            table,
+            state,
+        };
+    }
+    let t = state::flags::table_flags(table, file as usize, flags);
+    let s = state::values::open_transaction(state);
+    Out {
+        answer: Done::Done,
+        table: t,
+        state: s,
+    }
+}
+
+pub fn on_files(
+    image: &mut [u8],
+    map: &mut [u8],
+    out: &mut [u8],
+    at: usize,
+    world: World,
+    what: Files,
+) -> Turn {
+    let table = world.table;
+    let state = world.state;
+    match what {
+        Files::Truncate(file, n) => {
+            let r = transact::truncate::truncate(image, map, table, state, file, n);
+            told(out, at, world, r)
+        }
+        Files::Rename(from, to) => {
+            let r = transact::rename::rename(image, map, table, state, from, to);
+            told(out, at, world, r)
+        }
+        Files::Flags(file, flags) => {
+            let r = change_flags(image, map, table, state, file, flags);
+            told(out, at, world, r)
+        }
+        Files::Commit => {
+            let r = transact::commit::commit(image, map, table, state);
+            told(out, at, world, r)
+        }
+    }
+}
+
+fn said_number(out: &mut [u8], at: usize, answer: seq::numbers::Answer) -> usize {
+    match answer {
+        seq::numbers::Answer::Number(n) => say::one(out, at, b"value %\n", n),
+        seq::numbers::Answer::Range => say::refused(out, at, state::types::Refusal::Range),
+        seq::numbers::Answer::SeqEnd => say::refused(out, at, state::types::Refusal::SeqEnd),
+    }
+}
+
+pub fn on_helper(out: &mut [u8], at: usize, what: Helper) -> usize {
+    match what {
+        Helper::Zeros(a, b) => {
+            said_number(out, at, seq::numbers::max_trailing_zeros_between(a, b))
+        }
+        Helper::Index(a, b) => said_number(out, at, seq::numbers::skiplist_index(a, b)),
+        Helper::SpanSeq(n, i) => said_number(out, at, seq::numbers::skiplist_seq(n, i)),
+        Helper::Seed(s) => say::one(out, at, b"value %\n", seq::seed::seed_step(s)),
+    }
+}

@@ -1,0 +1,228 @@
+// Search: start, left and right. One search exists at a time, in the state.
+use crate::Answer;
+use crate::SearchOut;
+use crate::hunt::Kind;
+use crate::hunt::Offer;
+use state::types::Done;
+use state::types::FileRecord;
+use state::types::Refusal;
+use state::types::Search;
+use state::types::State;
+use state::types::Table;
+ghost use mathlib.Core.Path.{_≡_};
+ghost use mathlib.Core.Bool.{cond};
+ghost use Prim.Native.Nat.{_≤_};
+ghost use Rattle.seq.specs.Seq.{limit};
+ghost use Rattle.chain.specs.Steps.{readAt};
+ghost use Rattle.state.specs.Values.{withSearch};
+ghost use Rattle.state.specs.World.{before, result};
+ghost use Rattle.search.specs.Hunt.{hunt};
+ghost use Rattle.search.specs.Search.{offering, startOf, leftOf, rightOf, start, answered, left, right};
+ghost use Rattle.search.specs.Told.{afterSearch, replied, begun};
+
+// Where a search stands before it seeks.
+pub struct Stand {
+    pub file: u8,
+    pub left: u32,
+    pub right: u32,
+    pub links: [u16; 9],
+    pub result: u32,
+}
+
+// An answer, and the search as it is then.
+pub struct Reply {
+    pub answer: Answer,
+    pub search: Search,
+}
+
+// ---- where a search stands
+
+fn start_of(file: u8, f: FileRecord) -> Stand
+    ensures { λ r. ⌜ r ≡ startOf file f ⌝ }
+{
+    let links = chain::links_after(chain::last_of(f), f.last_seq);
+    Stand {
+        file,
+        left: f.first_seq,
+        right: f.last_seq,
+        links,
+        result: f.first_seq,
+    }
+}
+
+fn left_of(q: Search) -> Stand
+    ensures { λ r. ⌜ r ≡ leftOf q ⌝ }
+{
+    let links = q.low_links;
+    Stand {
+        file: q.file,
+        left: q.left,
+        right: q.low,
+        links,
+        result: q.result,
+    }
+}
+
+fn right_of(q: Search) -> Stand
+    requires { ⌜ q .high ≤ limit ⌝ }
+    ensures { λ r. ⌜ r ≡ rightOf q ⌝ }
+{
+    let links = q.right_links;
+    Stand {
+        file: q.file,
+        left: q.high + 1,
+        right: q.right,
+        links,
+        result: q.mid,
+    }
+}
+
+// ---- what comes of it
+
+fn offering(s: Stand, left: u32, o: Offer) -> Search
+    ensures { λ r. ⌜ r ≡ offering s left o ⌝ }
+{
+    let right_links = s.links;
+    let low_links = o.links;
+    Search {
+        active: true,
+        file: s.file,
+        left,
+        right: s.right,
+        right_links,
+        result: s.result,
+        low: o.low,
+        low_links,
+        mid: o.mid,
+        high: o.high,
+    }
+}
+
+// A false answer leaves no search, a Damaged one the old.
+fn sought(image: &[u8], count: usize, old: Search, s: Stand) -> Reply
+    ensures { λ r. ⌜ r ≡ replied old s (hunt count (readAt (now (image .entry))) (s .left) (s .right) (s .links)) ⌝ }
+{
+    let links = s.links;
+    let got = crate::hunt::hunt(image, count, s.left, s.right, links);
+    let kind = got.kind;
+    let offer = got.offer;
+    match kind {
+        Kind::Offered => {
+            let search = offering(s, got.left, offer);
+            Reply {
+                answer: Answer::Offer(offer.mid),
+                search,
+            }
+        }
+        Kind::Ended => {
+            let none = state::values::no_search();
+            Reply {
+                answer: Answer::End(s.result),
+                search: none,
+            }
+        }
+        Kind::Broken => Reply {
+            answer: Answer::Refused(Refusal::Damaged),
+            search: old,
+        },
+    }
+}
+
+fn refused(state: State, why: Refusal) -> SearchOut
+    ensures { λ r. ⌜ r ≡ record { answer = Answer.Refused why; state = state } ⌝ }
+{
+    SearchOut {
+        answer: Answer::Refused(why),
+        state,
+    }
+}
+
+// The state with another search.
+fn changed(state: State, reply: Reply) -> SearchOut
+    ensures { λ r. ⌜ r ≡ record { answer = reply .answer; state = withSearch state (reply .search) } ⌝ }
+{
+    let mut s = state;
+    let search = reply.search;
+    let answer = reply.answer;
+    s.search = search;
+    SearchOut { answer, state: s }
+}
+
+// ---- start
+
+// The answer for a file's record.
+fn begin(image: &[u8], count: usize, old: Search, file: u8, f: FileRecord) -> Reply
+    ensures { λ r. ⌜ r ≡ begun old count (readAt (now (image .entry))) file f ⌝ }
+{
+    if f.last_page == 65535 {
+        let search = state::values::no_search();
+        return Reply {
+            answer: Answer::End(f.first_seq),
+            search,
+        };
+    }
+    if state::values::in_shape(f, count) {
+        return sought(image, count, old, start_of(file, f));
+    }
+    Reply {
+        answer: Answer::Refused(Refusal::Damaged),
+        search: old,
+    }
+}
+
+// Starts a search in a file.
+pub fn search(image: &[u8], map: &[u8], table: Table, state: State, file: u8) -> SearchOut
+    ensures { λ r. ⌜ afterSearch r (now (image .entry)) (now (map .entry)) table ≡ result (λ w. start w file) (before (now (image .entry)) (now (map .entry)) table state) ⌝ }
+{
+    let passed = state::checks::check(image.len(), map.len(), state, state.transaction, file);
+    match passed {
+        Done::Refused(why) => {
+            return refused(state, why);
+        }
+        Done::Done => {}
+    }
+    let old = state.search;
+    let f = table.files[file as usize];
+    let got = begin(image, state.page_count as usize, old, file, f);
+    changed(state, got)
+}
+
+// ---- left and right
+
+// The answer to the position on offer.
+fn answered(image: &[u8], map: &[u8], state: State, to_right: bool) -> SearchOut
+    ensures { λ r. ⌜ ((t : Table) → afterSearch r (now (image .entry)) (now (map .entry)) t ≡ result (λ w. answered w (cond «to_right» rightOf leftOf)) (before (now (image .entry)) (now (map .entry)) t state)) ⌝ }
+{
+    let passed = state::checks::check(image.len(), map.len(), state, state.transaction, 0);
+    match passed {
+        Done::Refused(why) => {
+            return refused(state, why);
+        }
+        Done::Done => {}
+    }
+    let q = state.search;
+    if q.active {} else {
+        return refused(state, Refusal::NoSearch);
+    }
+    let count = state.page_count as usize;
+    if to_right {
+        let got = sought(image, count, q, right_of(q));
+        return changed(state, got);
+    }
+    let got = sought(image, count, q, left_of(q));
+    changed(state, got)
+}
+
+// The record that is looked for lies left of the position on offer.
+pub fn left(image: &[u8], map: &[u8], table: Table, state: State) -> SearchOut
+    ensures { λ r. ⌜ afterSearch r (now (image .entry)) (now (map .entry)) table ≡ result left (before (now (image .entry)) (now (map .entry)) table state) ⌝ }
+{
+    answered(image, map, state, false)
+}
+
+// It lies there or right of it.
+pub fn right(image: &[u8], map: &[u8], table: Table, state: State) -> SearchOut
+    ensures { λ r. ⌜ afterSearch r (now (image .entry)) (now (map .entry)) table ≡ result right (before (now (image .entry)) (now (map .entry)) table state) ⌝ }
+{
+    answered(image, map, state, true)
+}

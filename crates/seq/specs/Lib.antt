@@ -1,0 +1,4 @@
+pub mod Ids
+pub mod Seq
+pub mod Seed
+pub mod Rows

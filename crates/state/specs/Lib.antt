@@ -1,0 +1,4 @@
+pub mod Refusals
+pub mod Values
+pub mod Checks
+pub mod World

@@ -1,0 +1,41 @@
+-- Refusals, by document 01, "Refusal numbers". Assumes nothing: these are definitions.
+use Prim.Native.Nat.{ℕ}
+use Rattle.state.specs.declared.types.Refusal.{Refusal}
+use Rattle.state.specs.declared.types.Refusal.the-variants.{BadSize, NotMounted, Busy, BadFile, Damaged, Eof, Short, NoRoom, SeqEnd, NoSearch, Gone, Range}
+use Rattle.state.specs.declared.types.Done.{Done}
+use Rattle.state.specs.declared.types.Done.the-variants.{Done as Fine, Refused}
+
+-- document 01's number of each
+abbrev pub number : Refusal → ℕ
+number BadSize = 1
+number NotMounted = 2
+number Busy = 3
+number BadFile = 4
+number Damaged = 5
+number Eof = 6
+number Short = 7
+number NoRoom = 8
+number SeqEnd = 9
+number NoSearch = 10
+number Gone = 11
+number Range = 12
+
+-- its place in the order of checking: 1, 2, 3, 4, 12, 11, 6, 7, 9, 8, 10, 5
+abbrev pub place : Refusal → ℕ
+place BadSize = 0
+place NotMounted = 1
+place Busy = 2
+place BadFile = 3
+place Range = 4
+place Gone = 5
+place Eof = 6
+place Short = 7
+place SeqEnd = 8
+place NoRoom = 9
+place NoSearch = 10
+place Damaged = 11
+
+-- by what a check found
+abbrev pub onDone {ℓ} : {A : Type ℓ} → Done → (Refusal → A) → A → A
+onDone (Refused why) refuse go = refuse why
+onDone Fine refuse go = go

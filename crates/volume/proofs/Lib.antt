@@ -1,0 +1,11 @@
+pub mod Scans
+pub mod Erasures
+pub mod Claims
+pub mod Exits
+pub mod Calls
+pub mod Marks
+pub mod Loaded
+pub mod Mounts
+pub mod Formats
+pub mod Looks
+pub mod States

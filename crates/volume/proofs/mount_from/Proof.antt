@@ -1,0 +1,30 @@
+-- `volume::mount_from` meets its contract.
+-- Assumes nothing.
+use mathlib.Core.Path.{sym, _∙_}
+use Rattle.state.proofs.Laws.{sizes-say}
+use Rattle.volume.proofs.Calls.{with-refused, with-sizes}
+use borrow.Author.Needs.{needs}
+use Rattle.volume.proofs.mount_from.Statement.{statement}
+use Rattle.volume.proofs.mount_from.Tie as tie
+
+mount-best-requires : tie.Need-mount-best-requires
+mount-best-requires c κs =
+    let at-if1 = c .before in
+    let at-sizes-fit = at-if1 .before in
+    let z = sizes-say _ _ (sym (at-sizes-fit .sizes-fit .ensures) ∙ at-if1 .if1 .taken) in z .1
+
+returns : tie.Need-returns
+returns c =
+    let at-mount-best = c .before .before in
+    let at-if1 = at-mount-best .before .before in
+    let at-sizes-fit = at-if1 .before in
+    at-mount-best .mount-best .ensures
+    ∙ with-sizes _ _ _ _ _ (sym (at-sizes-fit .sizes-fit .ensures) ∙ at-if1 .if1 .taken)
+
+returns-2 : tie.Need-returns-2
+returns-2 c =
+    let at-sizes-fit = c .before in
+    with-refused _ _ _ _ _ (sym (at-sizes-fit .sizes-fit .ensures) ∙ c .if1 .left)
+
+pub mount-from-spec : {M : Type 1} → statement M
+mount-from-spec = tie.close (tie.spec (λ c κs. search needs) mount-best-requires (λ c. search needs) returns returns-2)

@@ -1,0 +1,14 @@
+pub mod Small
+pub mod Sounds
+pub mod Turns
+pub mod Pages
+pub mod Backs
+pub mod Exits
+pub mod Opens
+pub mod Cuts
+pub mod Kept
+pub mod Whole
+pub mod Stored
+pub mod Undone
+pub mod Held
+pub mod Opened
