@@ -76,7 +76,7 @@ module _ (count : ℕ) (read : ℕ → Read) (s j : ℕ) where
 -- ---- a step to a lower page
 
 -- the step that reading it makes
-abbrev reached : ℕ → Read → Stepped
+abbrev pub reached : ℕ → Read → Stepped
 reached j unreadable = breaks
 reached j (readable h) = reaches (record { «page_id» = j; header = h })
 
@@ -113,7 +113,7 @@ module _ (count : ℕ) (read : ℕ → Read) (t : ℕ) (p : PagePointer) where
       go (yes h) = rw (back-here count t p h)
       go (no h) = rw (back-none count t p (lt-of-not-le h) e)
 
-  back-goes : t < start p → (link p 0 ≡ none → ⊥) → step (backRule count t) read p ≡ reached (link p 0) (lower count read (start p) (link p 0))
+  pub back-goes : t < start p → (link p 0 ≡ none → ⊥) → step (backRule count t) read p ≡ reached (link p 0) (lower count read (start p) (link p 0))
   unfolding step
   back-goes h n = rw (back-on count t p h n) (lower-stepped (backRule count t) read p count (link p 0) (back-asks count t p))
 
@@ -129,16 +129,6 @@ module _ (count : ℕ) (read : ℕ → Read) (t : ℕ) (p : PagePointer) where
 
   -- what the code read, and the step that it is
   module _ (j : ℕ) (x : HeaderRead) (e : x ≡ gives (lower count read (start p) j)) where
-    module _ (h : t < start p) (n : j ≡ none → ⊥) (l : j ≡ link p 0) where
-      back-goes′ : step (backRule count t) read p ≡ reached j (lower count read (start p) j)
-      back-goes′ = rw l (back-goes h (rw l at n))
-
-      pub back-reaches : x .ok ≡ true → step (backRule count t) read p ≡ reaches (record { «page_id» = j; header = x .header })
-      back-reaches o = back-goes′ ∙ ap (reached j) (given-read x (lower count read (start p) j) e o)
-
-      pub back-breaks : x .ok ≡ false → step (backRule count t) read p ≡ breaks
-      back-breaks o = back-goes′ ∙ ap (reached j) (given-none x (lower count read (start p) j) e o)
-
     module _ (h : t < start p) (l : j ≡ link p (level t (start p))) where
       pub seek-reaches : x .ok ≡ true → step (seekRule count t) read p ≡ reaches (record { «page_id» = j; header = x .header })
       seek-reaches o = seek-goes h l ∙ ap (reached j) (given-read x (lower count read (start p) j) e o)

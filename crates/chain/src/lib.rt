@@ -1,4 +1,5 @@
 // A file's pages: the links of a new page, one step back, and the seek over the links.
+use page::BackRead;
 use page::DataHeader;
 use page::HeaderRead;
 use seq::ids::OptionPageID;
@@ -6,10 +7,11 @@ use seq::ids::PageOption;
 use state::types::FileRecord;
 ghost use mathlib.Core.Path.{_≡_};
 ghost use Rattle.seq.specs.Seq.{level};
-ghost use Rattle.page.specs.Page.{gives};
+ghost use Rattle.page.specs.Page.{gives, givesBack};
 ghost use Rattle.chain.specs.Links.{start, link, noLinks, linked, linksAfter};
 ghost use Rattle.chain.specs.Steps.{readAt, lower, step, backRule, seek};
 ghost use Rattle.chain.specs.Seek.{told, found};
+ghost use Rattle.chain.specs.Back.{placeOf, wide, toldBack, walkBack, reachedBy};
 ghost use Rattle.chain.specs.Files.{lastOf};
 
 // A page of a file with its header.
@@ -28,6 +30,25 @@ pub enum Kind {
 pub struct Step {
     pub kind: Kind,
     pub page: PagePointer,
+}
+
+// A page of a file with what a step back asks of its header: its first number and its link 0.
+pub struct Place {
+    pub page_id: u16,
+    pub seq: u32,
+    pub link: u16,
+}
+
+// Where a step back ends: place is the page reached, else the one stepped from.
+pub struct BackStep {
+    pub kind: Kind,
+    pub place: Place,
+}
+
+// Where a walk back ends. Damaged: the page that it began at.
+pub struct Reached {
+    pub ok: bool,
+    pub place: Place,
 }
 
 // Where a seek ends, and how many headers it read. Damaged: the page that it began at, and 0.
@@ -80,6 +101,8 @@ pub fn links_after(p: PagePointer, seq: u32) -> [u16; 9]
     new_links(links, seq::numbers::link_index(h.seq, seq), p.page_id)
 }
 
+// ---- a lower page
+
 // The header of page id, if that is a page below count and its seq is below start: what both kinds of step ask.
 fn lower(image: &[u8], count: usize, start: u32, id: u16) -> HeaderRead
     ensures { λ r. ⌜ r ≡ gives (lower count (readAt (now (image .entry))) start id) ⌝ }
@@ -100,40 +123,121 @@ fn lower(image: &[u8], count: usize, start: u32, id: u16) -> HeaderRead
     page::unread()
 }
 
-// One step back, to the page before p, for a p that starts above limit.
-pub fn prev(image: &[u8], count: usize, p: PagePointer, limit: u32) -> Step
-    ensures { λ r. ⌜ r ≡ told p (step (backRule count limit) (readAt (now (image .entry))) p) ⌝ }
+// Of it what a step back asks.
+fn lower_back(image: &[u8], count: usize, start: u32, id: u16) -> BackRead
+    ensures { λ r. ⌜ r ≡ givesBack (lower count (readAt (now (image .entry))) start id) ⌝ }
+{
+    let at = id as usize;
+    if OptionPageID::from_raw(id).is_none() | (count <= at) {
+        return page::unread_back();
+    }
+    let read = page::back_at(image, at);
+    if read.seq < start {
+        return read;
+    }
+    page::unread_back()
+}
+
+// ---- back
+
+// What a step back asks of a page whose header is at hand.
+pub fn place_of(p: PagePointer) -> Place
+    ensures { λ r. ⌜ r ≡ placeOf p ⌝ }
 {
     let h = p.header;
-    if h.seq <= limit {
-        return Step {
+    Place {
+        page_id: p.page_id,
+        seq: h.seq,
+        link: h.skiplist[0],
+    }
+}
+
+// One step back, to the page before p, for a p that starts above limit: the code of the rule, which all walks share.
+pub fn back(image: &[u8], count: usize, p: Place, limit: u32) -> BackStep
+    ensures { λ r. ⌜ r ≡ toldBack p (step (backRule count limit) (readAt (now (image .entry))) (wide p)) ⌝ }
+{
+    if (p.seq <= limit) | OptionPageID::from_raw(p.link).is_none() {
+        return BackStep {
             kind: Kind::Stays,
-            page: p,
+            place: p,
         };
     }
-    let id = h.skiplist[0];
-    if OptionPageID::from_raw(id).is_none() {
-        return Step {
-            kind: Kind::Stays,
-            page: p,
-        };
-    }
-    let next = lower(image, count, h.seq, id);
+    let next = lower_back(image, count, p.seq, p.link);
     if next.ok {
-        let header = next.header;
-        return Step {
+        return BackStep {
             kind: Kind::Reaches,
-            page: PagePointer {
-                page_id: id,
-                header,
+            place: Place {
+                page_id: p.link,
+                seq: next.seq,
+                link: next.link,
             },
         };
     }
-    Step {
+    BackStep {
         kind: Kind::Breaks,
-        page: p,
+        place: p,
     }
 }
+
+// The same with the header of the page reached.
+pub fn prev(image: &[u8], count: usize, p: PagePointer, limit: u32) -> Step
+    ensures { λ r. ⌜ r ≡ told p (step (backRule count limit) (readAt (now (image .entry))) p) ⌝ }
+{
+    let next = back(image, count, place_of(p), limit);
+    let kind = next.kind;
+    let to = next.place;
+    match kind {
+        Kind::Stays => Step {
+            kind: Kind::Stays,
+            page: p,
+        },
+        Kind::Breaks => Step {
+            kind: Kind::Breaks,
+            page: p,
+        },
+        Kind::Reaches => {
+            let read = page::header_at(image, to.page_id as usize);
+            let header = read.header;
+            Step {
+                kind: Kind::Reaches,
+                page: PagePointer {
+                    page_id: to.page_id,
+                    header,
+                },
+            }
+        }
+    }
+}
+
+// Where the walk back to limit ends.
+pub fn walk_back(image: &[u8], count: usize, p: Place, limit: u32) -> Reached
+    ensures { λ r. ⌜ r ≡ reachedBy p (walkBack count (readAt (now (image .entry))) limit p .ends) ⌝ }
+{
+    let mut here = p;
+    loop {
+        let next = back(image, count, here, limit);
+        let kind = next.kind;
+        match kind {
+            Kind::Stays => {
+                return Reached {
+                    ok: true,
+                    place: here,
+                };
+            }
+            Kind::Breaks => {
+                return Reached {
+                    ok: false,
+                    place: p,
+                };
+            }
+            Kind::Reaches => {
+                here = next.place;
+            }
+        }
+    }
+}
+
+// ---- the seek
 
 // The link that leads from p toward seq.
 fn link_toward(p: PagePointer, seq: u32) -> u16

@@ -3,7 +3,7 @@
 use Prim.Native.Nat.{ℕ, zero, suc, _+_, _-_, _*_, _/_, _%_, _≤_, _<_}
 use mathlib.Core.Path.{_≡_, refl, sym, ap, _∙_, subst}
 use mathlib.Core.List.{List, [], _++_}
-use mathlib.Core.Bool.{true, false, _&&_, and-false, and-eq-true-iff, true≢false, false≢true}
+use mathlib.Core.Bool.{Bool, true, false, _&&_, and-false, and-eq-true-iff, true≢false, false≢true}
 use native.Mathlib.Omega.{arith}
 use lib.ListN.{length, take, getD}
 use lib.Dec.{eqb, leb, ltb, lit<}
@@ -12,9 +12,10 @@ use Rattle.runs.specs.Runs.{part, le16, le32}
 use Rattle.runs.proofs.Laws.{cond-by, length-part, tab-ext, tab-drop, val16, val32, le16-take, le32-take}
 use Rattle.page.specs.declared.DataHeader.{DataHeader}
 use Rattle.page.specs.declared.HeaderRead.{HeaderRead}
+use Rattle.page.specs.declared.BackRead.{BackRead}
 use Rattle.page.specs.declared.MetaHeader.{MetaHeader}
 use Rattle.page.specs.declared.MetaRead.the-variants.{Found, Missing}
-use Rattle.page.specs.Page.{dataMagic, metaMagic, begins, pairReads, fields, fieldsOf, pageOf, Read, readable, unreadable, gives, headerOf, metaOf, holds, payloadBy, payloadOf, headerBytes, metaBytes, Bytes, Written, Fits}
+use Rattle.page.specs.Page.{dataMagic, metaMagic, begins, pairReads, fields, fieldsOf, pageOf, Read, readable, unreadable, gives, givesBack, headerOf, metaOf, holds, payloadBy, payloadOf, headerBytes, metaBytes, Bytes, Written, Fits}
 use Rattle.page.proofs.Laws.{page-there, Front, bytes-at}
 
 -- ---- by the tests
@@ -50,6 +51,16 @@ module _ (pg : List ℕ) where
   pub header-pair : pairReads pg ≡ false → headerOf pg ≡ unreadable
   unfolding headerOf
   header-pair q = rw (q, and-false)
+
+  -- the same two tests in one, and what a step back asks
+  pub back-reads : (a b : Bool) → a ≡ begins pg dataMagic → b ≡ pairReads pg → a && b ≡ true
+      → givesBack (headerOf pg) ≡ record { ok = true; seq = le32 pg 4; link = le16 pg 8 }
+  unfolding headerOf givesBack fieldsOf
+  back-reads a b p q t = rw (← p, ← q, t)
+
+  pub back-missing : (a b : Bool) → a ≡ begins pg dataMagic → b ≡ pairReads pg → a && b ≡ false → headerOf pg ≡ unreadable
+  unfolding headerOf
+  back-missing a b p q t = rw (← p, ← q, t)
 
   -- the one test of a metadata header
   pub meta-reads : begins pg metaMagic ≡ true → metaOf pg ≡ Found (record { «page_count» = le32 pg 4; seq = le32 pg 8 })
@@ -99,6 +110,18 @@ pub given-none : (r : HeaderRead) (x : Read) → r ≡ gives x → r .ok ≡ fal
 unfolding gives
 given-none r unreadable e t = refl
 given-none r (readable h) e t = absurd (true≢false (sym (ap (λ (y : HeaderRead). y .ok) e) ∙ t))
+
+-- and what a step back asks of it
+pub back-read : (r : BackRead) (x : Read) → r ≡ givesBack x → r .ok ≡ true
+    → (h : DataHeader) × (x ≡ readable h) × (r ≡ record { ok = true; seq = h .seq; link = getD (h .skiplist) 0 0 })
+unfolding givesBack
+back-read r unreadable e t = absurd (false≢true (sym (ap (λ (y : BackRead). y .ok) e) ∙ t))
+back-read r (readable h) e t = (h, refl, e)
+
+pub back-none : (r : BackRead) (x : Read) → r ≡ givesBack x → r .ok ≡ false → x ≡ unreadable
+unfolding givesBack
+back-none r unreadable e t = refl
+back-none r (readable h) e t = absurd (true≢false (sym (ap (λ (y : BackRead). y .ok) e) ∙ t))
 
 -- the pair's two bounds, whatever the page
 pub pair-bounds : (pg : List ℕ) → pairReads pg ≡ true → (1 ≤ le16 pg 28) × (le16 pg 28 ≤ 224)

@@ -9,6 +9,7 @@ use lib.Dec.{leb, ltb, eqb}
 use Rattle.runs.specs.Runs.{part, le16, le32, by16, by32}
 use Rattle.page.specs.declared.DataHeader.{DataHeader}
 use Rattle.page.specs.declared.HeaderRead.{HeaderRead}
+use Rattle.page.specs.declared.BackRead.{BackRead}
 use Rattle.page.specs.declared.MetaHeader.{MetaHeader}
 use Rattle.page.specs.declared.MetaRead.{MetaRead}
 use Rattle.page.specs.declared.MetaRead.the-variants.{Found, Missing}
@@ -59,6 +60,11 @@ noHeader = record { seq = 0; skiplist = replicate 9 0; «record_boundary» = 0; 
 unfoldable pub gives : Read → HeaderRead
 gives unreadable = record { ok = false; header = noHeader }
 gives (readable h) = record { ok = true; header = h }
+
+-- and of it what a step back asks, all 0 where nothing reads
+unfoldable pub givesBack : Read → BackRead
+givesBack unreadable = record { ok = false; seq = 0; link = 0 }
+givesBack (readable h) = record { ok = true; seq = h .seq; link = getD (h .skiplist) 0 0 }
 
 -- whether a page with this header holds the number n: seq ≤ n < seq + length
 unfoldable pub holds : DataHeader → ℕ → Bool

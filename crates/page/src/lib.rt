@@ -3,7 +3,7 @@
 ghost use mathlib.Core.Path.{_≡_};
 ghost use Prim.Native.Nat.{_+_};
 ghost use Rattle.runs.specs.Runs.{partOf};
-ghost use Rattle.page.specs.Page.{pageOf, begins, pairReads, fields, fieldsOf, headerOf, unreadable, gives, metaOf, headerList, headerBytes, metaList, metaBytes};
+ghost use Rattle.page.specs.Page.{pageOf, begins, pairReads, fields, fieldsOf, headerOf, unreadable, gives, givesBack, metaOf, headerList, headerBytes, metaList, metaBytes};
 ghost use Rattle.page.specs.Store.{erase, program, stored, ran, dataStores, metaStore};
 
 const DATA_MAGIC: u32 = 0x7fcb_f35d;
@@ -22,6 +22,13 @@ pub struct DataHeader {
 pub struct HeaderRead {
     pub ok: bool,
     pub header: DataHeader,
+}
+
+// What a step back asks of a header: its first number and its link 0. All 0 where it does not read.
+pub struct BackRead {
+    pub ok: bool,
+    pub seq: u32,
+    pub link: u16,
 }
 
 pub struct MetaHeader {
@@ -130,6 +137,30 @@ pub fn header_of(pg: &[u8]) -> HeaderRead
     unread()
 }
 
+pub fn unread_back() -> BackRead
+    ensures { λ r. ⌜ r ≡ givesBack unreadable ⌝ }
+{
+    BackRead {
+        ok: false,
+        seq: 0,
+        link: 0,
+    }
+}
+
+// Of the same header, what a step back asks: a walk of many pages copies no headers.
+pub fn back_of(pg: &[u8]) -> BackRead
+    ensures { λ r. ⌜ r ≡ givesBack (headerOf (now (pg .entry))) ⌝ }
+{
+    if begins(pg, DATA_MAGIC) & pair_reads(pg) {
+        return BackRead {
+            ok: true,
+            seq: runs::u32_at(pg, 4),
+            link: runs::u16_at(pg, 8),
+        };
+    }
+    unread_back()
+}
+
 // The header of a metadata page's bytes.
 pub fn meta_of(pg: &[u8]) -> MetaRead
     ensures { λ r. ⌜ r ≡ metaOf (now (pg .entry)) ⌝ }
@@ -186,6 +217,12 @@ pub fn meta_at(image: &[u8], p: usize) -> MetaRead
     ensures { λ r. ⌜ r ≡ metaOf (pageOf (now (image .entry)) p) ⌝ }
 {
     view_meta(view(image, p))
+}
+
+pub fn back_at(image: &[u8], p: usize) -> BackRead
+    ensures { λ r. ⌜ r ≡ givesBack (headerOf (pageOf (now (image .entry)) p)) ⌝ }
+{
+    back_of(page_of(image, p))
 }
 
 // ---- parts of a page, which are parts of the image

@@ -1,7 +1,7 @@
 -- The walks of a truncation: the walk to the new first_seq is the first part of the walk to the old one, and the pages after it are held.
 -- Assumes nothing.
 use mathlib.Core.Path.{_≡_, refl, sym, _∙_, ap, subst}
-use mathlib.Core.Bool.{Bool, true, false, cond}
+use mathlib.Core.Bool.{Bool, true, false, cond, _&&_}
 use mathlib.Core.List.{List, [], _∷_, _++_, map-append}
 use Prim.Native.Nat.{ℕ, _≤_, _<_}
 use native.Mathlib.Nat.{lt-of-not-le}
@@ -14,19 +14,22 @@ use lib.Seq.{set-set, set-comm, drop-append-seam}
 use Rattle.page.specs.Page.{Read}
 use Rattle.map.specs.Map.{held}
 use Rattle.chain.specs.declared.PagePointer.{PagePointer}
-use Rattle.chain.specs.declared.Found.{Found}
+use Rattle.chain.specs.declared.Place.{Place}
+use Rattle.chain.specs.declared.Reached.{Reached}
 use Rattle.chain.specs.Links.{start, oldest, ids}
 use Rattle.chain.specs.Files.{lastOf}
 use Rattle.chain.specs.Steps.{readAt, backRule, Sought, damaged, at, Trace, stop, through, walk}
 use Rattle.chain.specs.Seek.{foundBy, found}
-use Rattle.chain.proofs.Rules.{back-falling, back-meets, back-here, back-same}
+use Rattle.chain.specs.Back.{placeOf, wide, thinned, thin, walkBack, reachedBy}
+use Rattle.chain.proofs.Rules.{back-falling, back-meets, back-here, back-same, back-via}
+use Rattle.chain.proofs.Places.{walk-wide}
 use Rattle.chain.proofs.Traces.{Goes, trace-walked}
 use Rattle.chain.proofs.Walks.{WalkedTo, walk-is}
 use Rattle.state.specs.declared.types.FileRecord.{FileRecord}
 use Rattle.state.specs.Values.{inShape}
 use Rattle.state.proofs.Laws.{both}
 use Rattle.transact.specs.Truncate.{others, unreached, heldAll}
-use Rattle.transact.specs.Walks.{Ends, follows}
+use Rattle.transact.specs.Walks.{Ends, follows, edgeOf}
 
 -- ---- a trace that ends at a page
 
@@ -152,37 +155,144 @@ module _ (count : ℕ) (read : ℕ → Read) (t t′ : ℕ) (h : t ≤ t′) whe
             ∙ ap (λ (y : PagePointer). walk count read t y .path) (sym q);
       }
 
+  -- and the other way round: a walk to t′, and from where it ends a walk to t, are a walk to t
+  goes-too : (p q : PagePointer) → Goes (backRule count t′) read p q → Goes (backRule count t) read p q
+  goes-too p q g =
+      let k = back-via count t′ p (q .«page_id») (g .way) .0 in
+      record {
+        way = back-same count t p t′ (omega arith) k ∙ g .way;
+        stands = g .stands;
+        meets = back-meets count t p (q .header) (back-falling count t′ p (q .header) (g .meets));
+      }
+
+  joined : (p : PagePointer) (l m : List PagePointer) → WalkedTo count read t′ p l → WalkedTo count read t (oldest p l) m → WalkedTo count read t p (l ++ m)
+  joined p [] m w v = v
+  joined p (q ∷ l) m w v = (goes-too p q (w .0), joined q l m (w .1) v)
+
+  both-end : (p : PagePointer) → found p (walk count read t′ p) .ok ≡ true
+      → (let e = found p (walk count read t′ p) .page in found e (walk count read t e) .ok ≡ true) → found p (walk count read t p) .ok ≡ true
+  both-end p g h =
+      let e = found p (walk count read t′ p) .page in
+      let w = trace-walked (backRule count t′) (back-falling count t′) read p _ (ends-page p (walk count read t′ p) g) in
+      let q : e ≡ oldest p (w .0) = ap (λ (y : Trace). found p y .page) (walk-is count read t′ p (w .0) (w .1)) in
+      let v = trace-walked (backRule count t) (back-falling count t) read e _ (ends-page e (walk count read t e) h) in
+      let u = joined p (w .0) (v .0) (w .1) (subst (λ (y : PagePointer). WalkedTo count read t y (v .0)) q (v .1)) in
+      ap (λ (y : Trace). found p y .ok) (walk-is count read t p (w .0 ++ v .0) u)
+
+  -- so the whole walk ends at a page exactly if both parts do
+  pub parts-end : (p : PagePointer)
+      → let e = found p (walk count read t′ p) .page in
+      found p (walk count read t p) .ok ≡ found p (walk count read t′ p) .ok && found e (walk count read t e) .ok
+  parts-end p = by _ _ _ refl refl refl
+    where
+      e : PagePointer
+      e = found p (walk count read t′ p) .page
+
+      by : (a b c : Bool) → found p (walk count read t p) .ok ≡ a → found p (walk count read t′ p) .ok ≡ b → found e (walk count read t e) .ok ≡ c → a ≡ b && c
+      by true b c u v w = let x = edge p u in sym (ap (λ (y : Bool). y && c) (sym v ∙ x .ends) ∙ sym w ∙ x .goes-on)
+      by false true true u v w = sym u ∙ both-end p v w
+      by false true false u v w = refl
+      by false false c u v w = refl
+
+-- ---- walks that know no more of their pages than a step back asks
+
+thin-ok : (p q : PagePointer) (t : Trace) → found q (thin t) .ok ≡ found p t .ok
+thin-ok p q t = by (t .ends)
+  where
+    by : (s : Sought) → foundBy q (length (t .path)) (thinned s) .ok ≡ foundBy p (length (t .path)) s .ok
+    by damaged = refl
+    by (at x) = refl
+
+module _ (count : ℕ) (read : ℕ → Read) (t : ℕ) (p : PagePointer) (q : Place) (e : q ≡ placeOf p) where
+  -- a walk back ends at a page where the walk does, and visits the same pages
+  pub back-ok : found (wide q) (walkBack count read t q) .ok ≡ found p (walk count read t p) .ok
+  back-ok = rw e (ap (λ (y : Trace). found (wide (placeOf p)) y .ok) (walk-wide count read t p) ∙ thin-ok p (wide (placeOf p)) (walk count read t p))
+
+  pub back-path : walkBack count read t q .path ≡ walk count read t p .path
+  back-path = rw e (ap (λ (y : Trace). y .path) (walk-wide count read t p))
+
+  -- where the code says that it ends
+  module _ (x : Reached) (r : x ≡ reachedBy q (walkBack count read t q .ends)) where
+    ends-is : x ≡ reachedBy (placeOf p) (thinned (walk count read t p .ends))
+    ends-is = r ∙ rw e (ap (λ (y : Trace). reachedBy (placeOf p) (y .ends)) (walk-wide count read t p))
+
+    pub reached-ok : x .ok ≡ found p (walk count read t p) .ok
+    reached-ok = ap (λ (y : Reached). y .ok) ends-is ∙ by (walk count read t p .ends)
+      where
+        by : (s : Sought) → reachedBy (placeOf p) (thinned s) .ok ≡ foundBy p (length (walk count read t p .path)) s .ok
+        by damaged = refl
+        by (at y) = refl
+
+    pub reached-place : x .place ≡ placeOf (found p (walk count read t p) .page)
+    reached-place = ap (λ (y : Reached). y .place) ends-is ∙ by (walk count read t p .ends)
+      where
+        by : (s : Sought) → reachedBy (placeOf p) (thinned s) .place ≡ placeOf (foundBy p (length (walk count read t p .path)) s .page)
+        by damaged = refl
+        by (at y) = refl
+
 -- ---- the pages of a truncation
 
 module _ (img : List ℕ) (count : ℕ) (f : FileRecord) where
+  -- the page where the walk to the new first_seq ends, and whether the walk goes on from there to a page
+  abbrev edgePage : ℕ → PagePointer
+  edgePage first = found (lastOf f) (walk count (readAt img) first (lastOf f)) .page
+
+  abbrev onward : ℕ → Bool
+  onward first = found (edgePage first) (walk count (readAt img) (f .«first_seq») (edgePage first)) .ok
+
   -- a record that is followed is in shape, and its walk ends
-  pub follows-says : follows img count f ≡ true → (inShape count f ≡ true) × Ends img count (lastOf f) (f .«first_seq»)
+  pub follows-says : follows img count f ≡ true → (inShape count f ≡ true) × (found (lastOf f) (walk count (readAt img) (f .«first_seq») (lastOf f)) .ok ≡ true)
   unfolding follows
   follows-says h = both (inShape count f) _ h
 
-  module _ (first : ℕ) (p : PagePointer) (last : p ≡ lastOf f) (followed : follows img count f ≡ true) where
-    pub follows-ends : Ends img count p (f .«first_seq»)
-    follows-ends = rw last (follows-says followed .1)
+  -- by what the code found of the shape and of the two walks
+  pub follows-unshaped : inShape count f ≡ false → false ≡ follows img count f
+  unfolding follows
+  follows-unshaped h = rw h
 
+  module _ (first : ℕ) (up : f .«first_seq» ≤ first) (shaped : inShape count f ≡ true)
+      (l : Place) (last : l ≡ placeOf (lastOf f)) (x : Reached) (r : x ≡ reachedBy l (walkBack count (readAt img) first l .ends)) where
+    follows-is : follows img count f ≡ x .ok && onward first
+    unfolding follows
+    follows-is =
+        rw shaped
+        (parts-end count (readAt img) (f .«first_seq») first up (lastOf f)
+        ∙ ap (λ (b : Bool). b && onward first) (sym (reached-ok count (readAt img) first (lastOf f) l last x r)))
+
+    pub follows-not : x .ok ≡ false → false ≡ follows img count f
+    follows-not h = sym (follows-is ∙ ap (λ (b : Bool). b && onward first) h)
+
+    pub edge-is : x .place ≡ edgeOf img count f first
+    edge-is = reached-place count (readAt img) first (lastOf f) l last x r
+
+    pub follows-on : (y : Reached) → y ≡ reachedBy (x .place) (walkBack count (readAt img) (f .«first_seq») (x .place) .ends) → x .ok ≡ true → y .ok ≡ follows img count f
+    follows-on y s h =
+        reached-ok count (readAt img) (f .«first_seq») (edgePage first) (x .place) edge-is y s
+        ∙ sym (follows-is ∙ ap (λ (b : Bool). b && onward first) h)
+
+  module _ (first : ℕ) (followed : follows img count f ≡ true) where
     -- nothing remains: all of them
-    pub held-whole : (m a b : List ℕ) → first ≡ f .«last_seq» → a ≡ set m (f .«last_page») held
-        → b ≡ heldAll a (others (f .«last_page») (walk count (readAt img) (f .«first_seq») p .path)) → b ≡ heldAll m (unreached img count f first)
-    unfolding unreached
-    held-whole m a b e g h =
-        rw (eq-eqb first (f .«last_seq») e) (h ∙ rw (g, last) (held-all (f .«last_page») m (walk count (readAt img) (f .«first_seq») (lastOf f) .path)))
+    module _ (l : Place) (last : l ≡ placeOf (lastOf f)) where
+      pub follows-ends : Ends img count l (f .«first_seq»)
+      follows-ends = back-ok count (readAt img) (f .«first_seq») (lastOf f) l last ∙ follows-says followed .1
 
-    module _ (x : Found) (walked : x ≡ found p (walk count (readAt img) first p)) (up : f .«first_seq» ≤ first) where
-      at-edge : Edge count (readAt img) (f .«first_seq») first up (lastOf f) (x .page)
-      at-edge =
-          rw (walked, last)
-          (edge count (readAt img) (f .«first_seq») first up (lastOf f) (follows-says followed .1))
-
-      -- the walk goes on where the walk to the new first_seq ends
-      pub edge-ends : Ends img count (x .page) (f .«first_seq»)
-      edge-ends = at-edge .goes-on
-
-      -- something remains: those after that page
-      pub held-rest : (m b : List ℕ) → (first ≡ f .«last_seq» → ⊥)
-          → b ≡ heldAll m (others (f .«last_page») (walk count (readAt img) (f .«first_seq») (x .page) .path)) → b ≡ heldAll m (unreached img count f first)
+      pub held-whole : (m a b : List ℕ) → first ≡ f .«last_seq» → a ≡ set m (f .«last_page») held
+          → b ≡ heldAll a (others (f .«last_page») (walkBack count (readAt img) (f .«first_seq») l .path)) → b ≡ heldAll m (unreached img count f first)
       unfolding unreached
-      held-rest m b n h = rw (ne-eqb first (f .«last_seq») n, at-edge .left) h
+      held-whole m a b e g h =
+          rw (eq-eqb first (f .«last_seq») e)
+          (h ∙ rw (g, back-path count (readAt img) (f .«first_seq») (lastOf f) l last)
+          (held-all (f .«last_page») m (walk count (readAt img) (f .«first_seq») (lastOf f) .path)))
+
+    -- something remains: those after the page where the walk to the new first_seq ends
+    module _ (l : Place) (at-edge : l ≡ edgeOf img count f first) (up : f .«first_seq» ≤ first) where
+      parts : Edge count (readAt img) (f .«first_seq») first up (lastOf f) (edgePage first)
+      parts = edge count (readAt img) (f .«first_seq») first up (lastOf f) (follows-says followed .1)
+
+      pub edge-ends : Ends img count l (f .«first_seq»)
+      edge-ends = back-ok count (readAt img) (f .«first_seq») (edgePage first) l at-edge ∙ parts .goes-on
+
+      pub held-rest : (m b : List ℕ) → (first ≡ f .«last_seq» → ⊥)
+          → b ≡ heldAll m (others (f .«last_page») (walkBack count (readAt img) (f .«first_seq») l .path)) → b ≡ heldAll m (unreached img count f first)
+      unfolding unreached
+      held-rest m b n h = rw (ne-eqb first (f .«last_seq») n, parts .left) (h ∙ rw (back-path count (readAt img) (f .«first_seq») (edgePage first) l at-edge))

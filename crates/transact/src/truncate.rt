@@ -40,10 +40,12 @@ pub fn truncate(
         return files::change(table, state, i, files::dirty(f));
     }
     let count = state.page_count as usize;
-    if !walk::follow(image, count, f) {
+    let first = files::new_first(f, bytes);
+    let edge = walk::edge_of(image, count, f, first);
+    if !edge.ok {
         return files::refuse(table, state, Refusal::Damaged);
     }
-    let first = files::new_first(f, bytes);
-    walk::hold_unreached(image, map, count, f, first);
+    let place = edge.place;
+    walk::hold_unreached(image, map, count, f, first, place);
     files::change(table, state, i, files::cut(f, first))
 }

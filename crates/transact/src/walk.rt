@@ -1,58 +1,40 @@
 // A file's pages, from its last page back, and the pages that a truncation holds.
-use chain::Found;
 use chain::Kind;
-use chain::PagePointer;
+use chain::Place;
+use chain::Reached;
 use state::types::FileRecord;
 ghost use mathlib.Core.Path.{_≡_};
 ghost use mathlib.Core.Bool.{true};
 ghost use mathlib.Core.List.{[], _∷_};
 ghost use Prim.Native.Nat.{_≤_};
-ghost use Rattle.chain.specs.Steps.{readAt, walk};
-ghost use Rattle.chain.specs.Seek.{found};
+ghost use Rattle.chain.specs.Steps.{readAt};
+ghost use Rattle.chain.specs.Back.{walkBack};
 ghost use Rattle.transact.specs.Truncate.{others, unreached, heldAll};
-ghost use Rattle.transact.specs.Walks.{Ends, follows};
+ghost use Rattle.transact.specs.Walks.{Ends, follows, edgeOf};
 
-// Where the walk back from a page whose header is at hand ends, and how many headers it read.
-pub fn walk_back(image: &[u8], count: usize, p: PagePointer, limit: u32) -> Found
-    ensures { λ r. ⌜ r ≡ found p (walk count (readAt (now (image .entry))) limit p) ⌝ }
+// Whether a call may follow the record, and its walk ends at a page; and where the walk to the new first_seq ends.
+// Each page is read once: the walk to the old first_seq goes on from there.
+pub fn edge_of(image: &[u8], count: usize, f: FileRecord, first: u32) -> Reached
+    requires { ⌜ f .«first_seq» ≤ first ⌝ }
+    ensures { λ r. ⌜ (r .ok ≡ follows (now (image .entry)) count f) × (r .ok ≡ true → r .place ≡ edgeOf (now (image .entry)) count f first) ⌝ }
 {
-    let mut here = p;
-    let mut read: u32 = 0;
-    loop {
-        let next = chain::prev(image, count, here, limit);
-        let kind = next.kind;
-        match kind {
-            Kind::Stays => {
-                return Found {
-                    ok: true,
-                    count: read,
-                    page: here,
-                };
-            }
-            Kind::Breaks => {
-                return Found {
-                    ok: false,
-                    count: 0,
-                    page: p,
-                };
-            }
-            Kind::Reaches => {
-                here = next.page;
-                read += 1;
-            }
-        }
+    let last = chain::place_of(chain::last_of(f));
+    if state::values::in_shape(f, count) {} else {
+        return Reached {
+            ok: false,
+            place: last,
+        };
     }
-}
-
-// Whether a call may follow the record, and its walk ends at a page.
-pub fn follow(image: &[u8], count: usize, f: FileRecord) -> bool
-    ensures { λ r. ⌜ r ≡ follows (now (image .entry)) count f ⌝ }
-{
-    if state::values::in_shape(f, count) {
-        let found = walk_back(image, count, chain::last_of(f), f.first_seq);
-        return found.ok;
+    let edge = chain::walk_back(image, count, last, first);
+    if edge.ok {} else {
+        return edge;
     }
-    false
+    let place = edge.place;
+    let whole = chain::walk_back(image, count, place, f.first_seq);
+    Reached {
+        ok: whole.ok,
+        place,
+    }
 }
 
 // A page other than the last one is held.
@@ -66,13 +48,13 @@ fn hold_other(map: &mut [u8], id: u16, last: u16)
 }
 
 // The pages of the walk back after p are held.
-fn hold_back(image: &[u8], map: &mut [u8], count: usize, p: PagePointer, limit: u32, last: u16)
+fn hold_back(image: &[u8], map: &mut [u8], count: usize, p: Place, limit: u32, last: u16)
     requires { ⌜ Ends (now image) count p limit ⌝ }
-    ensures { λ _. ⌜ now (map .exit) ≡ heldAll (now (map .entry)) (others last (walk count (readAt (now (image .entry))) limit p .path)) ⌝ }
+    ensures { λ _. ⌜ now (map .exit) ≡ heldAll (now (map .entry)) (others last (walkBack count (readAt (now (image .entry))) limit p .path)) ⌝ }
 {
     let mut here = p;
     loop {
-        let next = chain::prev(image, count, here, limit);
+        let next = chain::back(image, count, here, limit);
         let kind = next.kind;
         match kind {
             Kind::Stays => {
@@ -82,25 +64,30 @@ fn hold_back(image: &[u8], map: &mut [u8], count: usize, p: PagePointer, limit: 
                 return;
             }
             Kind::Reaches => {
-                here = next.page;
+                here = next.place;
                 hold_other(map, here.page_id, last);
             }
         }
     }
 }
 
-// The pages that the walk to the new first_seq does not reach are held; all where nothing remains.
-pub fn hold_unreached(image: &[u8], map: &mut [u8], count: usize, f: FileRecord, first: u32)
-    requires { ⌜ (follows (now image) count f ≡ true) × (f .«first_seq» ≤ first) ⌝ }
+// The pages that the walk to the new first_seq does not reach are held; all where nothing remains. The walk ends at edge.
+pub fn hold_unreached(
+    image: &[u8],
+    map: &mut [u8],
+    count: usize,
+    f: FileRecord,
+    first: u32,
+    edge: Place,
+)
+    requires { ⌜ (follows (now image) count f ≡ true) × (f .«first_seq» ≤ first) × (edge ≡ edgeOf (now image) count f first) ⌝ }
     ensures { λ _. ⌜ now (map .exit) ≡ heldAll (now (map .entry)) (unreached (now (image .entry)) count f first) ⌝ }
 {
-    let p = chain::last_of(f);
     if first == f.last_seq {
         map::hold(map, f.last_page as usize);
-        hold_back(image, map, count, p, f.first_seq, f.last_page);
+        let last = chain::place_of(chain::last_of(f));
+        hold_back(image, map, count, last, f.first_seq, f.last_page);
         return;
     }
-    let found = walk_back(image, count, p, first);
-    let edge = found.page;
     hold_back(image, map, count, edge, f.first_seq, f.last_page);
 }

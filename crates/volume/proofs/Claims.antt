@@ -8,6 +8,7 @@ use lib.ListN.{getD, set}
 use Rattle.map.specs.Map.{used}
 use Rattle.chain.specs.declared.PagePointer.{PagePointer}
 use Rattle.chain.specs.Steps.{Sought, damaged, at, Trace, stop, through}
+use Rattle.chain.specs.Back.{placeOf, wide, thinned, thin}
 use Rattle.volume.specs.Mount.{bad, good, claim, claimed}
 
 module _ (m : List ℕ) (p : PagePointer) (t : Trace) where
@@ -38,3 +39,12 @@ module _ (m : List ℕ) (p : PagePointer) (t : Trace) where
       by : (s : Sought) → claimed (set m (p .«page_id») used) q u s ≡ claimed m p (through (q .«page_id») u) s
       by damaged = refl
       by (at x) = rw e
+
+-- ---- a walk that knows no more of its pages than a step back asks
+
+pub claim-thin : (m : List ℕ) (p : PagePointer) (t : Trace) → claimed m (wide (placeOf p)) (thin t) (thinned (t .ends)) ≡ claimed m p t (t .ends)
+claim-thin m p t = by (t .ends)
+  where
+    by : (s : Sought) → claimed m (wide (placeOf p)) (thin t) (thinned s) ≡ claimed m p t s
+    by damaged = refl
+    by (at q) = refl

@@ -171,12 +171,12 @@ fn claim_page(map: &mut [u8], p: usize) -> bool
 fn claim_walk(image: &[u8], count: usize, map: &mut [u8], p: PagePointer, first: u32) -> bool
     ensures { λ r. ⌜ markedAs r (now (map .exit)) ≡ claimed (now (map .entry)) p (walk count (readAt (now (image .entry))) first p) (walk count (readAt (now (image .entry))) first p .ends) ⌝ }
 {
-    let mut here = p;
+    let mut here = chain::place_of(p);
     loop {
         if claim_page(map, here.page_id as usize) {} else {
             return false;
         }
-        let next = chain::prev(image, count, here, first);
+        let next = chain::back(image, count, here, first);
         let kind = next.kind;
         match kind {
             Kind::Stays => {
@@ -186,7 +186,7 @@ fn claim_walk(image: &[u8], count: usize, map: &mut [u8], p: PagePointer, first:
                 return false;
             }
             Kind::Reaches => {
-                here = next.page;
+                here = next.place;
             }
         }
     }

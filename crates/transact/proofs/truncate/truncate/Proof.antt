@@ -55,52 +55,52 @@ returns-3 c =
     changed-is (λ (x : World). truncate x (a .file) (a .bytes)) w _ _ _ _ _ _ (c .change .ensures) (c .before .dirty .ensures) refl
     (truncate-empty w (a .file) (a .bytes) (sym (c8 .check .ensures) ∙ c6 .enum-told .given .1) (c5 .if1 .left) (c .before .before .if2 .taken))
 
+edge-of-requires : tie.Need-edge-of-requires
+edge-of-requires c κs = omega (arith, c .new-first .ensures)
+
 returns-4 : tie.Need-returns-4
 returns-4 c =
-    let c4 = c .before .before .before .before in
-    let c7 = c4 .before .before .before in
-    let c8 = c7 .before in
-    let c10 = c8 .before .before in
-    let c14 = c10 .before .before .before .before in
-    let a = c14 .args in
+    let e = c .before .before .before in
+    let n = e .before .before .before .before .before .before in
+    let k = n .before .before .before in
+    let a = k .before .before .before .before .args in
     let w = before (now (a .image)) (now (a .map)) (a .t3) (a .state) in
     refused-is (λ (x : World). truncate x (a .file) (a .bytes)) w _ _ (c .refuse2 .ensures)
-    (truncate-damaged w (a .file) (a .bytes) (sym (c10 .check .ensures) ∙ c8 .enum-told .given .1) (c7 .if1 .left) (c4 .if2 .left) (sym (c .before .before .follow .ensures) ∙ not-true _ (c .before .if3 .taken)))
+    (truncate-damaged w (a .file) (a .bytes) (sym (k .check .ensures) ∙ n .before .enum-told .given .1) (n .if1 .left) (e .before .before .before .if2 .left)
+    (sym (e .edge-of .ensures .0) ∙ not-true _ (c .before .if3 .taken)))
 
+-- the walk ends at a page, and which
 hold-unreached-requires : tie.Need-hold-unreached-requires
 hold-unreached-requires c κs =
-    let c3 = c .before .before .before in
-    (sym (c3 .follow .ensures) ∙ not-false _ (c .before .before .if3 .left), omega (arith, c .before .new-first .ensures))
+    let e = c .before .before .before .before in
+    let ok = not-false _ (c .before .before .if3 .left) in
+    (sym (e .edge-of .ensures .0) ∙ ok, omega (arith, e .before .new-first .ensures), e .edge-of .ensures .1 ok)
 
 change-requires-2 : tie.Need-change-requires-2
 change-requires-2 c κs =
-    let c13 = c .before .before .before .before .before .before .before .before .before .before .before .before .before in
-    let c15 = c13 .before .before in
-    let k = checks-pass _ _ _ _ _ (sym (c15 .check .ensures) ∙ c13 .enum-told .given .1) in
+    let n = c .before .before .before .before .before .before .before .before .before .before .before .before .before .before .before in
+    let k = checks-pass _ _ _ _ _ (sym (n .before .before .check .ensures) ∙ n .enum-told .given .1) in
     omega (arith, k .known)
 
 returns-5 : tie.Need-returns-5
 returns-5 c =
-    let c4 = c .before .before .before .before in
-    let c6 = c4 .before .before in
-    let c7 = c6 .before in
-    let c8 = c7 .before in
-    let c10 = c8 .before .before in
-    let c13 = c10 .before .before .before in
-    let c14 = c13 .before in
-    let c16 = c14 .before .before in
-    let c20 = c16 .before .before .before .before in
-    let a = c20 .args in
+    let h = c .before .before .before .before in
+    let e = h .before .before .before .before .before in
+    let f = e .before in
+    let n = e .before .before .before .before .before .before in
+    let k = n .before .before .before in
+    let a = k .before .before .before .before .args in
     let w = before (now (a .image)) (now (a .map)) (a .t3) (a .state) in
     changed-is (λ (x : World). truncate x (a .file) (a .bytes)) w _ _ _ _ _ _ (c .change2 .ensures)
-    (c .before .cut .ensures ∙ ap (cut (fileAt (a .t3) (a .file))) (c6 .new-first .ensures))
-    (c4 .hold-unreached .ensures ∙ ap (λ (n : ℕ). heldAll (now (a .map)) (unreached (now (a .image)) (a .state .«page_count») (fileAt (a .t3) (a .file)) n)) (c6 .new-first .ensures))
-    (truncate-held w (a .file) (a .bytes) (sym (c16 .check .ensures) ∙ c14 .enum-told .given .1) (c13 .if1 .left) (c10 .if2 .left) (sym (c8 .follow .ensures) ∙ not-false _ (c7 .if3 .left)))
+    (c .before .cut .ensures ∙ ap (cut (fileAt (a .t3) (a .file))) (f .new-first .ensures))
+    (h .hold-unreached .ensures ∙ ap (λ (n : ℕ). heldAll (now (a .map)) (unreached (now (a .image)) (a .state .«page_count») (fileAt (a .t3) (a .file)) n)) (f .new-first .ensures))
+    (truncate-held w (a .file) (a .bytes) (sym (k .check .ensures) ∙ n .before .enum-told .given .1) (n .if1 .left) (e .before .before .before .if2 .left)
+    (sym (e .edge-of .ensures .0) ∙ not-false _ (h .before .before .before .if3 .left)))
 
 pub truncate-spec : {M : Type 1} → statement M
 truncate-spec =
     tie.close
     (tie.spec
     (λ c κs. search needs) (λ c. search needs) (λ c κs. search needs) returns (λ c. search needs) returns-2 (λ c. search needs)
-    element-copy-out-f (λ c κs. search needs) change-requires returns-3 (λ c. search needs) (λ c κs. search needs) (λ c κs. search needs)
-    returns-4 (λ c κs. search needs) hold-unreached-requires (λ c κs. search needs) change-requires-2 (λ c. search needs) returns-5)
+    element-copy-out-f (λ c κs. search needs) change-requires returns-3 (λ c. search needs) (λ c κs. search needs) edge-of-requires (λ c κs. search needs)
+    returns-4 hold-unreached-requires (λ c κs. search needs) change-requires-2 (λ c. search needs) returns-5)
