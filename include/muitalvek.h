@@ -2,7 +2,8 @@
  *
  * An image has 4 to 1,024 pages, its length is exactly 256 times their count, and the map has one byte for each page.
  * Both are the caller's and are lent to each call. Table and state go in by value and come back in the reply: store
- * them after every call, also a refused one. A code of 0 is success, any other is a refusal's number (below).
+ * them after every call, also a refused one. Of mv_search, mv_left and mv_right only the search comes back, for
+ * nothing else changes: store it in state.search. A code of 0 is success, any other is a refusal's number (below).
  * Link target/staticlib/libexport.a, which `rt staticlib export` writes.
  */
 #ifndef MUITALVEK_H
@@ -120,12 +121,12 @@ typedef struct {
     uint32_t seq;
 } mv_seq_reply;
 
-/* a position on offer, or (offer is false) the search's result; the state after the call */
+/* a position on offer, or (offer is false) the search's result; the search as it is after the call: put it into state.search */
 typedef struct {
     uint32_t code;
     bool offer;
     uint32_t seq;
-    mv_state state;
+    mv_search_state search;
 } mv_search_reply;
 
 /* an unmounted state; any seed will do */
@@ -151,15 +152,13 @@ mv_seq_reply mv_skip(const uint8_t *image, size_t image_len, const uint8_t *map,
 mv_seq_reply mv_seek(const uint8_t *image, size_t image_len, const uint8_t *map, size_t map_len, mv_table table,
                      mv_state state, uint8_t file, size_t offs);
 
-/* starts a search for a record of a file */
+/* starts a search for a record of a file; the caller puts reply.search into state.search, here and in the next two */
 mv_search_reply mv_search(const uint8_t *image, size_t image_len, const uint8_t *map, size_t map_len, mv_table table,
                           mv_state state, uint8_t file);
 /* what is searched lies left of the position on offer */
-mv_search_reply mv_left(const uint8_t *image, size_t image_len, const uint8_t *map, size_t map_len, mv_table table,
-                        mv_state state);
+mv_search_reply mv_left(const uint8_t *image, size_t image_len, const uint8_t *map, size_t map_len, mv_state state);
 /* it lies there or right of it */
-mv_search_reply mv_right(const uint8_t *image, size_t image_len, const uint8_t *map, size_t map_len, mv_table table,
-                         mv_state state);
+mv_search_reply mv_right(const uint8_t *image, size_t image_len, const uint8_t *map, size_t map_len, mv_state state);
 
 /* opens a writer at a file's end */
 mv_reply mv_open(const uint8_t *image, size_t image_len, uint8_t *map, size_t map_len, mv_table table, mv_state state,

@@ -18,6 +18,13 @@ macro_rules! call {
     };
 }
 
+// A search's answers look at no table.
+macro_rules! answer {
+    ($self:ident . $name:ident ()) => {
+        unsafe { $name($self.image.as_ptr(), $self.image.len(), $self.map.as_ptr(), $self.map.len(), $self.state) }
+    };
+}
+
 impl Ours {
     pub fn new(pages: usize, seed: u32) -> Self {
         let (table, state) = unsafe { (mv_empty_table(), mv_new_state(seed)) };
@@ -95,12 +102,12 @@ impl Ours {
         let mut offers = 0;
         loop {
             assert_eq!(r.code, 0);
-            self.state = r.state;
+            self.state.search = r.search;
             if !r.offer {
                 return (r.seq, offers);
             }
             offers += 1;
-            r = if r.seq <= target { call!(self.mv_right()) } else { call!(self.mv_left()) };
+            r = if r.seq <= target { answer!(self.mv_right()) } else { answer!(self.mv_left()) };
         }
     }
 }

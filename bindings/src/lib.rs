@@ -47,6 +47,13 @@ macro_rules! ask {
     };
 }
 
+// And for a search's answers, which look at no table.
+macro_rules! answer {
+    ($self:ident . $name:ident ()) => {
+        unsafe { raw::$name($self.image.as_ptr(), $self.image.len(), $self.map.as_ptr(), $self.map.len(), $self.state) }
+    };
+}
+
 impl<'a> Volume<'a> {
     fn unmounted(image: &'a mut [u8], map: &'a mut [u8], seed: u32) -> Self {
         let (table, state) = unsafe { (raw::mv_empty_table(), raw::mv_new_state(seed)) };
@@ -76,7 +83,7 @@ impl<'a> Volume<'a> {
     }
 
     fn found(&mut self, reply: raw::SearchReply) -> Result<Found, Refusal> {
-        self.state = reply.state;
+        self.state.search = reply.search;
         Refusal::check(reply.code)?;
         Ok(if reply.offer { Found::Offer(reply.seq) } else { Found::End(reply.seq) })
     }
@@ -114,13 +121,13 @@ impl<'a> Volume<'a> {
 
     /// What is searched lies left of the position on offer.
     pub fn left(&mut self) -> Result<Found, Refusal> {
-        let reply = ask!(self.mv_left());
+        let reply = answer!(self.mv_left());
         self.found(reply)
     }
 
     /// It lies there or right of it.
     pub fn right(&mut self) -> Result<Found, Refusal> {
-        let reply = ask!(self.mv_right());
+        let reply = answer!(self.mv_right());
         self.found(reply)
     }
 

@@ -3,8 +3,10 @@ use mathlib.Core.Path.{_≡_, ap, _∙_}
 use mathlib.Core.List.{List}
 use Prim.Native.Nat.{ℕ}
 use Rattle.state.specs.declared.types.Table.{Table}
+use Rattle.state.specs.declared.types.State.{State}
 use Rattle.state.specs.declared.types.Done.{Done}
 use Rattle.state.specs.declared.types.Out.{Out}
+use Rattle.state.specs.Values.{withSearch}
 use Rattle.state.specs.World.{After, before, after}
 use Rattle.reader.specs.declared.ReadOut.{ReadOut}
 use Rattle.reader.specs.Read.{AfterRead, afterRead}
@@ -34,12 +36,12 @@ read-is r o out a e f =
     }
 
 -- of a search
-pub sought-is : (r : SearchReply) (o : SearchOut) (i m : List ℕ) (t : Table) (a : After Answer) → r ≡ soughtReply o → afterSearch o i m t ≡ a
-    → SearchReplied r i m t a
-sought-is r o i m t a e f =
+pub sought-is : (r : SearchReply) (o : SearchOut) (i m : List ℕ) (t : Table) (s : State) (a : After Answer) → r ≡ soughtReply o → afterSearch o i m t s ≡ a
+    → SearchReplied r i m t s a
+sought-is r o i m t s a e f =
     record {
       code = ap (λ (x : SearchReply). x .code) e ∙ ap (λ (x : After Answer). answerCode (x .answer)) f;
       offer = ap (λ (x : SearchReply). x .offer) e ∙ ap (λ (x : After Answer). offers (x .answer)) f;
       seq = ap (λ (x : SearchReply). x .seq) e ∙ ap (λ (x : After Answer). answerSeq (x .answer)) f;
-      world = ap (λ (x : SearchReply). before i m t (x .state)) e ∙ ap (λ (x : After Answer). x .world) f;
+      world = ap (λ (x : SearchReply). before i m t (withSearch s (x .search))) e ∙ ap (λ (x : After Answer). x .world) f;
     }

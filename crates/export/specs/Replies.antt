@@ -10,6 +10,7 @@ use Rattle.state.specs.declared.types.Done.{Done}
 use Rattle.state.specs.declared.types.Done.the-variants.{Done as Fine, Refused}
 use Rattle.state.specs.declared.types.Out.{Out}
 use Rattle.state.specs.Refusals.{number}
+use Rattle.state.specs.Values.{withSearch}
 use Rattle.state.specs.World.{World, After, before}
 use Rattle.reader.specs.declared.Located.{Located}
 use Rattle.reader.specs.declared.Located.the-variants as L
@@ -79,11 +80,11 @@ answerSeq (A.End seq) = seq
 answerSeq (A.Refused why) = 0
 
 abbrev pub soughtReply : SearchOut → SearchReply
-soughtReply o = record { code = answerCode (o .answer); offer = offers (o .answer); seq = answerSeq (o .answer); state = o .state }
+soughtReply o = record { code = answerCode (o .answer); offer = offers (o .answer); seq = answerSeq (o .answer); search = o .search }
 
--- image, map and table stay
-pub record SearchReplied (r : SearchReply) (image map : List ℕ) (table : Table) (a : After Answer) : Type 0 where
+-- image, map and table stay, and so does the state but for its search
+pub record SearchReplied (r : SearchReply) (image map : List ℕ) (table : Table) (state : State) (a : After Answer) : Type 0 where
   pub code : r .code ≡ answerCode (a .answer)
   pub offer : r .offer ≡ offers (a .answer)
   pub seq : r .seq ≡ answerSeq (a .answer)
-  pub world : before image map table (r .state) ≡ a .world
+  pub world : before image map table (withSearch state (r .search)) ≡ a .world

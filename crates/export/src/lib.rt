@@ -1,4 +1,4 @@
-// All calls for C and Rust: image and map are lent, table and state go in and come back by value.
+// All calls for C and Rust: image and map are lent, table and state go in and come back by value, of a search call only the search.
 use reader::Reader;
 use replies::LocateReply;
 use replies::Reply;
@@ -131,25 +131,25 @@ pub extern "C" fn mv_search(
     state: State,
     file: u8,
 ) -> SearchReply
-    ensures { λ r. ⌜ SearchReplied r (now (image .entry)) (now (map .entry)) table (result (λ w. start w file) (before (now (image .entry)) (now (map .entry)) table state)) ⌝ }
+    ensures { λ r. ⌜ SearchReplied r (now (image .entry)) (now (map .entry)) table state (result (λ w. start w file) (before (now (image .entry)) (now (map .entry)) table state)) ⌝ }
 {
     replies::sought(search::search::search(image, map, table, state, file))
 }
 
 // What is searched lies left of the position on offer.
 #[no_mangle]
-pub extern "C" fn mv_left(image: &[u8], map: &[u8], table: Table, state: State) -> SearchReply
-    ensures { λ r. ⌜ SearchReplied r (now (image .entry)) (now (map .entry)) table (result left (before (now (image .entry)) (now (map .entry)) table state)) ⌝ }
+pub extern "C" fn mv_left(image: &[u8], map: &[u8], state: State) -> SearchReply
+    ensures { λ r. ⌜ ((t : Table) → SearchReplied r (now (image .entry)) (now (map .entry)) t state (result left (before (now (image .entry)) (now (map .entry)) t state))) ⌝ }
 {
-    replies::sought(search::search::left(image, map, table, state))
+    replies::sought(search::search::left(image, map, state))
 }
 
 // It lies there or right of it.
 #[no_mangle]
-pub extern "C" fn mv_right(image: &[u8], map: &[u8], table: Table, state: State) -> SearchReply
-    ensures { λ r. ⌜ SearchReplied r (now (image .entry)) (now (map .entry)) table (result right (before (now (image .entry)) (now (map .entry)) table state)) ⌝ }
+pub extern "C" fn mv_right(image: &[u8], map: &[u8], state: State) -> SearchReply
+    ensures { λ r. ⌜ ((t : Table) → SearchReplied r (now (image .entry)) (now (map .entry)) t state (result right (before (now (image .entry)) (now (map .entry)) t state))) ⌝ }
 {
-    replies::sought(search::search::right(image, map, table, state))
+    replies::sought(search::search::right(image, map, state))
 }
 
 // Opens a writer at a file's end.

@@ -6,6 +6,7 @@ use search::Answer;
 use search::SearchOut;
 use state::types::Done;
 use state::types::Out;
+use state::types::Search;
 use state::types::State;
 use state::types::Table;
 ghost use mathlib.Core.Path.{_≡_};
@@ -34,13 +35,13 @@ pub struct SeqReply {
     pub seq: u32,
 }
 
-// A position on offer, or the search's result at its end; the state is that after the call.
+// A position on offer, or the search's result at its end; the search is that after the call, and nothing else of the state changes.
 #[repr(C)]
 pub struct SearchReply {
     pub code: u32,
     pub offer: bool,
     pub seq: u32,
-    pub state: State,
+    pub search: Search,
 }
 
 pub fn code_of(answer: Done) -> u32
@@ -107,25 +108,25 @@ pub fn sought(out: SearchOut) -> SearchReply
     ensures { λ r. ⌜ r ≡ soughtReply out ⌝ }
 {
     let answer = out.answer;
-    let state = out.state;
+    let search = out.search;
     match answer {
         Answer::Offer(seq) => SearchReply {
             code: 0,
             offer: true,
             seq,
-            state,
+            search,
         },
         Answer::End(seq) => SearchReply {
             code: 0,
             offer: false,
             seq,
-            state,
+            search,
         },
         Answer::Refused(why) => SearchReply {
             code: code_of(Done::Refused(why)),
             offer: false,
             seq: 0,
-            state,
+            search,
         },
     }
 }

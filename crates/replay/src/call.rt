@@ -152,15 +152,17 @@ pub fn on_searching(
     let state = world.state;
     let r: SearchOut = match what {
         Searching::Search(file) => search::search::search(image, map, table, state, file),
-        Searching::Left => search::search::left(image, map, table, state),
-        Searching::Right => search::search::right(image, map, table, state),
+        Searching::Left => search::search::left(image, map, state),
+        Searching::Right => search::search::right(image, map, state),
     };
     let answer = r.answer;
-    let state = r.state;
+    let search = r.search;
+    let mut after = state;
+    after.search = search;
     let next = said_searched(out, at, answer);
     let world = World {
         table,
-        state,
+        state: after,
         image: world.image,
         map: world.map,
     };

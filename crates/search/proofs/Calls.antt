@@ -25,7 +25,6 @@ use Rattle.search.specs.declared.SearchOut.{SearchOut}
 use Rattle.search.specs.declared.hunt.Kind.the-variants.{Offered, Ended, Broken}
 use Rattle.search.specs.declared.hunt.Hunted.{Hunted}
 use Rattle.search.specs.declared.search.Stand.{Stand}
-use Rattle.search.specs.declared.search.Reply.{Reply}
 use Rattle.search.specs.Hunt.{Sought, offered, ended, broken, hunt}
 use Rattle.search.specs.Search.{offering, answering, soughtBy, sought, startOf, startIn, start, answered}
 use Rattle.search.specs.Told.{told, replied, begun, afterSearch}
@@ -75,7 +74,7 @@ module _ (old : Search) (count : ℕ) (read : ℕ → Read) (i : ℕ) (f : FileR
 
 -- ---- a call is an answer and the search that stays
 
-abbrev made : World → Reply → Outcome Answer
+abbrev made : World → SearchOut → Outcome Answer
 made w r = answering w (r .answer) (r .search)
 
 made-sought : (w : World) (s : Stand) (x : Sought) → made w (replied (w .state .search) s x) ≡ soughtBy w s x
@@ -100,37 +99,42 @@ module _ (w : World) (i : ℕ) where
 
   -- ---- start
 
-  pub start-refused : (r : SearchOut) (why : Refusal) → Checks ≡ Barred why → r ≡ record { answer = Refused why; state = w .state }
-      → afterSearch r (w .image) (w .map) (w .table) ≡ result (λ w. start w i) w
-  unfolding start
+  -- a start that the checks refuse leaves the search
+  pub start-refused : (r : SearchOut) (why : Refusal) → Checks ≡ Barred why → r ≡ record { answer = Refused why; search = w .state .search }
+      → afterSearch r (w .image) (w .map) (w .table) (w .state) ≡ result (λ w. start w i) w
+  unfolding start withSearch
   start-refused r why e u = rw (u, e)
 
-  pub start-replied : (r : SearchOut) (b : Reply) → Checks ≡ Fine → b ≡ begun (w .state .search) (w .state .«page_count») (readAt (w .image)) i (fileAt (w .table) i)
-      → r ≡ record { answer = b .answer; state = withSearch (w .state) (b .search) } → afterSearch r (w .image) (w .map) (w .table) ≡ result (λ w. start w i) w
+  -- else it is what the file's record gives
+  pub start-replied : (r : SearchOut) → Checks ≡ Fine → r ≡ begun (w .state .search) (w .state .«page_count») (readAt (w .image)) i (fileAt (w .table) i)
+      → afterSearch r (w .image) (w .map) (w .table) (w .state) ≡ result (λ w. start w i) w
   unfolding start
-  start-replied r b e v u = rw (u, v, e) (ap (finished w) (made-started w i (fileAt (w .table) i)))
+  start-replied r e u = rw (u, e) (ap (finished w) (made-started w i (fileAt (w .table) i)))
 
 -- ---- left and right
 
 module _ (w : World) (f : Search → Stand) where
-  pub answer-refused : (r : SearchOut) (why : Refusal) → Checks w 0 ≡ Barred why → r ≡ record { answer = Refused why; state = w .state }
-      → afterSearch r (w .image) (w .map) (w .table) ≡ result (λ w. answered w f) w
-  unfolding answered
+  -- an answer that the checks refuse leaves the search
+  pub answer-refused : (r : SearchOut) (why : Refusal) → Checks w 0 ≡ Barred why → r ≡ record { answer = Refused why; search = w .state .search }
+      → afterSearch r (w .image) (w .map) (w .table) (w .state) ≡ result (λ w. answered w f) w
+  unfolding answered withSearch
   answer-refused r why e u = rw (u, e)
 
-  pub answer-none : (r : SearchOut) → Checks w 0 ≡ Fine → w .state .search .active ≡ false → r ≡ record { answer = Refused NoSearch; state = w .state }
-      → afterSearch r (w .image) (w .map) (w .table) ≡ result (λ w. answered w f) w
-  unfolding answered
+  -- so does one where no position is on offer
+  pub answer-none : (r : SearchOut) → Checks w 0 ≡ Fine → w .state .search .active ≡ false → r ≡ record { answer = Refused NoSearch; search = w .state .search }
+      → afterSearch r (w .image) (w .map) (w .table) (w .state) ≡ result (λ w. answered w f) w
+  unfolding answered withSearch
   answer-none r e a u = rw (u, e, a)
 
   answered-is : Checks w 0 ≡ Fine → w .state .search .active ≡ true → answered w f ≡ sought w (f (w .state .search))
   unfolding answered
   answered-is e a = rw e (ap (λ (b : Bool). cond b (sought w (f (w .state .search))) (kept w (Refused NoSearch))) a)
 
-  pub answer-replied : (r : SearchOut) (b : Reply) (s : Stand) → Checks w 0 ≡ Fine → w .state .search .active ≡ true → s ≡ f (w .state .search)
-      → b ≡ replied (w .state .search) s (hunt (w .state .«page_count») (readAt (w .image)) (s .left) (s .right) (s .links))
-      → r ≡ record { answer = b .answer; state = withSearch (w .state) (b .search) } → afterSearch r (w .image) (w .map) (w .table) ≡ result (λ w. answered w f) w
+  -- else it is what the hunt gives from where the answer puts the search
+  pub answer-replied : (r : SearchOut) (s : Stand) → Checks w 0 ≡ Fine → w .state .search .active ≡ true → s ≡ f (w .state .search)
+      → r ≡ replied (w .state .search) s (hunt (w .state .«page_count») (readAt (w .image)) (s .left) (s .right) (s .links))
+      → afterSearch r (w .image) (w .map) (w .table) (w .state) ≡ result (λ w. answered w f) w
   unfolding sought
-  answer-replied r b s e a g v u =
+  answer-replied r s e a g u =
       let q = w .state .search in
-      rw (u, v, g) (ap (finished w) (made-sought w (f q) (hunt (w .state .«page_count») (readAt (w .image)) (f q .left) (f q .right) (f q .links)) ∙ sym (answered-is e a)))
+      rw (u, g) (ap (finished w) (made-sought w (f q) (hunt (w .state .«page_count») (readAt (w .image)) (f q .left) (f q .right) (f q .links)) ∙ sym (answered-is e a)))

@@ -13,9 +13,10 @@ use Rattle.chain.specs.Links.{linksAfter}
 use Rattle.chain.specs.Steps.{isPage}
 use Rattle.state.specs.declared.types.FileRecord.{FileRecord}
 use Rattle.state.specs.declared.types.Search.{Search}
+use Rattle.state.specs.declared.types.State.{State}
 use Rattle.state.specs.declared.types.Table.{Table}
 use Rattle.state.specs.declared.types.Refusal.the-variants.{Damaged}
-use Rattle.state.specs.Values.{noSearch, isEmpty, inShape}
+use Rattle.state.specs.Values.{noSearch, withSearch, isEmpty, inShape}
 use Rattle.state.specs.World.{After, before}
 use Rattle.search.specs.declared.Answer.{Answer}
 use Rattle.search.specs.declared.Answer.the-variants.{Offer as Offers, End, Refused}
@@ -27,15 +28,14 @@ use Rattle.search.specs.declared.hunt.Aim.{Aim}
 use Rattle.search.specs.declared.hunt.Aim.the-variants.{At, Past}
 use Rattle.search.specs.declared.hunt.Kind.the-variants.{Offered, Ended, Broken}
 use Rattle.search.specs.declared.hunt.Hunted.{Hunted}
-use Rattle.search.specs.declared.search.Reply.{Reply}
 use Rattle.search.specs.declared.search.Stand.{Stand}
 use Rattle.search.specs.Hunt.{Hit, hit, tooLeft, wrong, greater, seenBy, seekToPage, hitBy, Sought, offered, ended, broken, tries, reallySeek, hunt}
 use Rattle.search.specs.Search.{offering, startOf}
 
--- ---- a call: a search leaves the table
+-- ---- a call: of all that there is only the search changes
 
-abbrev pub afterSearch : SearchOut → List ℕ → List ℕ → Table → After Answer
-afterSearch r i m t = record { answer = r .answer; world = before i m t (r .state) }
+abbrev pub afterSearch : SearchOut → List ℕ → List ℕ → Table → State → After Answer
+afterSearch r i m t s = record { answer = r .answer; world = before i m t (withSearch s (r .search)) }
 
 -- ---- where a hunt stands
 
@@ -49,7 +49,7 @@ told ended = record { kind = Ended; left = 0; offer = noOffer }
 told broken = record { kind = Broken; left = 0; offer = noOffer }
 
 -- the answer, and the search that stays; old is the one before the call
-abbrev pub replied : Search → Stand → Sought → Reply
+abbrev pub replied : Search → Stand → Sought → SearchOut
 replied old s (offered left o) = record { answer = Offers (o .mid); search = offering s left o }
 replied old s ended = record { answer = End (s .result); search = noSearch }
 replied old s broken = record { answer = Refused Damaged; search = old }
@@ -95,7 +95,7 @@ walked count read right links i left target limit id =
 
 -- ---- a start, by the file's record
 
-unfoldable pub begun : Search → ℕ → (ℕ → Read) → ℕ → FileRecord → Reply
+unfoldable pub begun : Search → ℕ → (ℕ → Read) → ℕ → FileRecord → SearchOut
 begun old count read i f =
     cond (isEmpty f) (record { answer = End (f .«first_seq»); search = noSearch })
     (cond (inShape count f)

@@ -1,6 +1,6 @@
 // Search for a record's start.
 use state::types::Refusal;
-use state::types::State;
+use state::types::Search;
 
 pub mod hunt;
 pub mod search;
@@ -12,7 +12,8 @@ pub enum Answer {
     Refused(Refusal),
 }
 
+// What a call hands back: its answer, and the search as it is then. Nothing else changes.
 pub struct SearchOut {
     pub answer: Answer,
-    pub state: State,
+    pub search: Search,
 }

@@ -14,7 +14,6 @@ ghost use mathlib.Core.Bool.{cond};
 ghost use Prim.Native.Nat.{_≤_};
 ghost use Rattle.seq.specs.Seq.{limit};
 ghost use Rattle.chain.specs.Steps.{readAt};
-ghost use Rattle.state.specs.Values.{withSearch};
 ghost use Rattle.state.specs.World.{before, result};
 ghost use Rattle.search.specs.Hunt.{hunt};
 ghost use Rattle.search.specs.Search.{offering, startOf, leftOf, rightOf, start, answered, left, right};
@@ -27,12 +26,6 @@ pub struct Stand {
     pub right: u32,
     pub links: [u16; 9],
     pub result: u32,
-}
-
-// An answer, and the search as it is then.
-pub struct Reply {
-    pub answer: Answer,
-    pub search: Search,
 }
 
 // ---- where a search stands
@@ -99,7 +92,7 @@ fn offering(s: Stand, left: u32, o: Offer) -> Search
 }
 
 // A false answer leaves no search, a Damaged one the old.
-fn sought(image: &[u8], count: usize, old: Search, s: Stand) -> Reply
+fn sought(image: &[u8], count: usize, old: Search, s: Stand) -> SearchOut
     ensures { λ r. ⌜ r ≡ replied old s (hunt count (readAt (now (image .entry))) (s .left) (s .right) (s .links)) ⌝ }
 {
     let links = s.links;
@@ -109,54 +102,44 @@ fn sought(image: &[u8], count: usize, old: Search, s: Stand) -> Reply
     match kind {
         Kind::Offered => {
             let search = offering(s, got.left, offer);
-            Reply {
+            SearchOut {
                 answer: Answer::Offer(offer.mid),
                 search,
             }
         }
         Kind::Ended => {
             let none = state::values::no_search();
-            Reply {
+            SearchOut {
                 answer: Answer::End(s.result),
                 search: none,
             }
         }
-        Kind::Broken => Reply {
+        Kind::Broken => SearchOut {
             answer: Answer::Refused(Refusal::Damaged),
             search: old,
         },
     }
 }
 
-fn refused(state: State, why: Refusal) -> SearchOut
-    ensures { λ r. ⌜ r ≡ record { answer = Answer.Refused why; state = state } ⌝ }
+// A refusal leaves the search.
+fn refused(old: Search, why: Refusal) -> SearchOut
+    ensures { λ r. ⌜ r ≡ record { answer = Answer.Refused why; search = old } ⌝ }
 {
     SearchOut {
         answer: Answer::Refused(why),
-        state,
+        search: old,
     }
-}
-
-// The state with another search.
-fn changed(state: State, reply: Reply) -> SearchOut
-    ensures { λ r. ⌜ r ≡ record { answer = reply .answer; state = withSearch state (reply .search) } ⌝ }
-{
-    let mut s = state;
-    let search = reply.search;
-    let answer = reply.answer;
-    s.search = search;
-    SearchOut { answer, state: s }
 }
 
 // ---- start
 
 // The answer for a file's record.
-fn begin(image: &[u8], count: usize, old: Search, file: u8, f: FileRecord) -> Reply
+fn begin(image: &[u8], count: usize, old: Search, file: u8, f: FileRecord) -> SearchOut
     ensures { λ r. ⌜ r ≡ begun old count (readAt (now (image .entry))) file f ⌝ }
 {
     if f.last_page == 65535 {
         let search = state::values::no_search();
-        return Reply {
+        return SearchOut {
             answer: Answer::End(f.first_seq),
             search,
         };
@@ -164,7 +147,7 @@ fn begin(image: &[u8], count: usize, old: Search, file: u8, f: FileRecord) -> Re
     if state::values::in_shape(f, count) {
         return sought(image, count, old, start_of(file, f));
     }
-    Reply {
+    SearchOut {
         answer: Answer::Refused(Refusal::Damaged),
         search: old,
     }
@@ -172,57 +155,54 @@ fn begin(image: &[u8], count: usize, old: Search, file: u8, f: FileRecord) -> Re
 
 // Starts a search in a file.
 pub fn search(image: &[u8], map: &[u8], table: Table, state: State, file: u8) -> SearchOut
-    ensures { λ r. ⌜ afterSearch r (now (image .entry)) (now (map .entry)) table ≡ result (λ w. start w file) (before (now (image .entry)) (now (map .entry)) table state) ⌝ }
+    ensures { λ r. ⌜ afterSearch r (now (image .entry)) (now (map .entry)) table state ≡ result (λ w. start w file) (before (now (image .entry)) (now (map .entry)) table state) ⌝ }
 {
+    let old = state.search;
     let passed = state::checks::check(image.len(), map.len(), state, state.transaction, file);
     match passed {
         Done::Refused(why) => {
-            return refused(state, why);
+            return refused(old, why);
         }
         Done::Done => {}
     }
-    let old = state.search;
     let f = table.files[file as usize];
-    let got = begin(image, state.page_count as usize, old, file, f);
-    changed(state, got)
+    begin(image, state.page_count as usize, old, file, f)
 }
 
 // ---- left and right
 
-// The answer to the position on offer.
+// The answer to the position on offer. No table is looked at.
 fn answered(image: &[u8], map: &[u8], state: State, to_right: bool) -> SearchOut
-    ensures { λ r. ⌜ ((t : Table) → afterSearch r (now (image .entry)) (now (map .entry)) t ≡ result (λ w. answered w (cond «to_right» rightOf leftOf)) (before (now (image .entry)) (now (map .entry)) t state)) ⌝ }
+    ensures { λ r. ⌜ ((t : Table) → afterSearch r (now (image .entry)) (now (map .entry)) t state ≡ result (λ w. answered w (cond «to_right» rightOf leftOf)) (before (now (image .entry)) (now (map .entry)) t state)) ⌝ }
 {
+    let q = state.search;
     let passed = state::checks::check(image.len(), map.len(), state, state.transaction, 0);
     match passed {
         Done::Refused(why) => {
-            return refused(state, why);
+            return refused(q, why);
         }
         Done::Done => {}
     }
-    let q = state.search;
     if q.active {} else {
-        return refused(state, Refusal::NoSearch);
+        return refused(q, Refusal::NoSearch);
     }
     let count = state.page_count as usize;
     if to_right {
-        let got = sought(image, count, q, right_of(q));
-        return changed(state, got);
+        return sought(image, count, q, right_of(q));
     }
-    let got = sought(image, count, q, left_of(q));
-    changed(state, got)
+    sought(image, count, q, left_of(q))
 }
 
 // The record that is looked for lies left of the position on offer.
-pub fn left(image: &[u8], map: &[u8], table: Table, state: State) -> SearchOut
-    ensures { λ r. ⌜ afterSearch r (now (image .entry)) (now (map .entry)) table ≡ result left (before (now (image .entry)) (now (map .entry)) table state) ⌝ }
+pub fn left(image: &[u8], map: &[u8], state: State) -> SearchOut
+    ensures { λ r. ⌜ ((t : Table) → afterSearch r (now (image .entry)) (now (map .entry)) t state ≡ result left (before (now (image .entry)) (now (map .entry)) t state)) ⌝ }
 {
     answered(image, map, state, false)
 }
 
 // It lies there or right of it.
-pub fn right(image: &[u8], map: &[u8], table: Table, state: State) -> SearchOut
-    ensures { λ r. ⌜ afterSearch r (now (image .entry)) (now (map .entry)) table ≡ result right (before (now (image .entry)) (now (map .entry)) table state) ⌝ }
+pub fn right(image: &[u8], map: &[u8], state: State) -> SearchOut
+    ensures { λ r. ⌜ ((t : Table) → afterSearch r (now (image .entry)) (now (map .entry)) t state ≡ result right (before (now (image .entry)) (now (map .entry)) t state)) ⌝ }
 {
     answered(image, map, state, true)
 }

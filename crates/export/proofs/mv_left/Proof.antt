@@ -12,7 +12,7 @@ sought-requires : tie.Need-sought-requires
 sought-requires c κs = search needs
 
 returns : tie.Need-returns
-returns c = sought-is _ _ _ _ _ _ (c .sought .ensures) (c .before .left .ensures)
+returns c = λ t. sought-is _ _ _ _ _ _ _ (c .sought .ensures) (c .before .left .ensures t)
 
 pub mv-left-spec : {M : Type 1} → statement M
 mv-left-spec = tie.close (tie.spec left-requires sought-requires returns)

@@ -12,7 +12,7 @@ sought-requires : tie.Need-sought-requires
 sought-requires c κs = search needs
 
 returns : tie.Need-returns
-returns c = sought-is _ _ _ _ _ _ (c .sought .ensures) (c .before .right .ensures)
+returns c = λ t. sought-is _ _ _ _ _ _ _ (c .sought .ensures) (c .before .right .ensures t)
 
 pub mv-right-spec : {M : Type 1} → statement M
 mv-right-spec = tie.close (tie.spec right-requires sought-requires returns)

@@ -1,31 +1,56 @@
 -- `search::search::answered` meets its contract: the checks passed or not, a position is on offer or not, and which way.
 -- Assumes nothing.
-use mathlib.Core.Path.{sym, _∙_}
+use mathlib.Core.Path.{sym, _∙_, ap}
+use mathlib.Core.Bool.{Bool, cond}
 use denote.Ref.{now}
 use Rattle.state.specs.World.{before}
-use mathlib.Core.Path.{ap}
-use mathlib.Core.Bool.{Bool, cond}
-use Rattle.search.specs.Search.{leftOf, rightOf}
 use Rattle.state.proofs.Laws.{checks-pass, search-says}
+use Rattle.search.specs.Search.{leftOf, rightOf}
 use Rattle.search.proofs.Calls.{answer-refused, answer-none, answer-replied}
 use borrow.Author.Needs.{needs}
 use Rattle.search.proofs.search.answered.Statement.{statement}
 use Rattle.search.proofs.search.answered.Tie as tie
 
 returns : tie.Need-returns
-returns c = λ t. answer-refused (before (now (c .before .before .before .before .before .before .before .args .image)) (now (c .before .before .before .before .before .before .before .args .map)) t (c .before .before .before .before .before .before .before .args .state)) (cond (c .before .before .before .before .before .before .before .args .to-right) rightOf leftOf) _ _ (sym (c .before .before .before .before .check .ensures) ∙ c .before .before .passed .given .1) (c .refused .ensures)
+returns c =
+    let c4 = c .before .before .before .before in
+    let a = c4 .before .before .before .before .args in
+    λ t. answer-refused (before (now (a .image)) (now (a .map)) t (a .state)) (cond (a .to-right) rightOf leftOf) _ _ (sym (c4 .check .ensures) ∙ c .before .before .passed .given .1) (c .refused .ensures)
 
 returns-2 : tie.Need-returns-2
-returns-2 c = λ t. answer-none (before (now (c .before .before .before .before .before .before .before .before .args .image)) (now (c .before .before .before .before .before .before .before .before .args .map)) t (c .before .before .before .before .before .before .before .before .args .state)) (cond (c .before .before .before .before .before .before .before .before .args .to-right) rightOf leftOf) _ (sym (c .before .before .before .before .before .check .ensures) ∙ c .before .before .before .enum-told .given .1) (c .before .if1 .left) (c .refused2 .ensures)
+returns-2 c =
+    let c4 = c .before .before .before .before in
+    let a = c4 .before .before .before .before .args in
+    λ t. answer-none (before (now (a .image)) (now (a .map)) t (a .state)) (cond (a .to-right) rightOf leftOf) _ (sym (c4 .check .ensures) ∙ c .before .before .enum-told .given .1) (c .before .if1 .left) (c .refused2 .ensures)
 
 right-of-requires : tie.Need-right-of-requires
-right-of-requires c κs = search-says _ (checks-pass _ _ _ _ _ (sym (c .before .before .before .before .before .before .check .ensures) ∙ c .before .before .before .before .enum-told .given .1) .mounted .search) (c .before .before .if1 .taken) .high
+right-of-requires c κs =
+    let c3 = c .before .before .before in
+    search-says _ (checks-pass _ _ _ _ _ (sym (c3 .before .before .check .ensures) ∙ c3 .enum-told .given .1) .mounted .search) (c .before .before .if1 .taken) .high
 
 returns-3 : tie.Need-returns-3
-returns-3 c = λ t. answer-replied (before (now (c .before .before .before .before .before .before .before .before .before .before .before .before .args .image)) (now (c .before .before .before .before .before .before .before .before .before .before .before .before .args .map)) t (c .before .before .before .before .before .before .before .before .before .before .before .before .args .state)) (cond (c .before .before .before .before .before .before .before .before .before .before .before .before .args .to-right) rightOf leftOf) _ _ _ (sym (c .before .before .before .before .before .before .before .before .before .check .ensures) ∙ c .before .before .before .before .before .before .before .enum-told .given .1) (c .before .before .before .before .before .if1 .taken) (c .before .before .right-of .ensures ∙ ap (λ (b : Bool). cond b rightOf leftOf (c .before .before .before .before .before .before .before .before .before .before .before .before .args .state .search)) (sym (c .before .before .before .if2 .taken))) (c .before .sought .ensures) (c .changed .ensures)
+returns-3 c =
+    let c4 = c .before .before .before .before in
+    let c7 = c4 .before .before .before in
+    let a = c7 .before .before .before .before .args in
+    λ t. answer-replied (before (now (a .image)) (now (a .map)) t (a .state)) (cond (a .to-right) rightOf leftOf) _ _
+    (sym (c7 .check .ensures) ∙ c4 .before .enum-told .given .1) (c4 .if1 .taken)
+    (c .before .right-of .ensures ∙ ap (λ (b : Bool). cond b rightOf leftOf (a .state .search)) (sym (c .before .before .if2 .taken)))
+    (c .sought .ensures)
 
 returns-4 : tie.Need-returns-4
-returns-4 c = λ t. answer-replied (before (now (c .before .before .before .before .before .before .before .before .before .before .before .before .args .image)) (now (c .before .before .before .before .before .before .before .before .before .before .before .before .args .map)) t (c .before .before .before .before .before .before .before .before .before .before .before .before .args .state)) (cond (c .before .before .before .before .before .before .before .before .before .before .before .before .args .to-right) rightOf leftOf) _ _ _ (sym (c .before .before .before .before .before .before .before .before .before .check .ensures) ∙ c .before .before .before .before .before .before .before .enum-told .given .1) (c .before .before .before .before .before .if1 .taken) (c .before .before .left-of .ensures ∙ ap (λ (b : Bool). cond b rightOf leftOf (c .before .before .before .before .before .before .before .before .before .before .before .before .args .state .search)) (sym (c .before .before .before .if2 .left))) (c .before .sought2 .ensures) (c .changed2 .ensures)
+returns-4 c =
+    let c4 = c .before .before .before .before in
+    let c7 = c4 .before .before .before in
+    let a = c7 .before .before .before .before .args in
+    λ t. answer-replied (before (now (a .image)) (now (a .map)) t (a .state)) (cond (a .to-right) rightOf leftOf) _ _
+    (sym (c7 .check .ensures) ∙ c4 .before .enum-told .given .1) (c4 .if1 .taken)
+    (c .before .left-of .ensures ∙ ap (λ (b : Bool). cond b rightOf leftOf (a .state .search)) (sym (c .before .before .if2 .left)))
+    (c .sought2 .ensures)
 
 pub answered-spec : {M : Type 1} → statement M
-answered-spec = tie.close (tie.spec (λ c κs. search needs) (λ c. search needs) (λ c κs. search needs) returns (λ c. search needs) (λ c κs. search needs) returns-2 (λ c. search needs) right-of-requires (λ c κs. search needs) (λ c κs. search needs) returns-3 (λ c κs. search needs) (λ c κs. search needs) (λ c κs. search needs) returns-4)
+answered-spec =
+    tie.close
+    (tie.spec
+    (λ c κs. search needs) (λ c. search needs) (λ c κs. search needs) returns (λ c. search needs) (λ c κs. search needs) returns-2
+    (λ c. search needs) right-of-requires (λ c κs. search needs) returns-3 (λ c κs. search needs) (λ c κs. search needs) returns-4)
