@@ -46,8 +46,7 @@ int main(void) {
     printf("read: code %u, up to %u: %s\n", (unsigned)end.code, (unsigned)end.seq, back);
     mv_seq_reply past = mv_read(image, sizeof image, map, sizeof map, table, state, 3, end.seq, (uint8_t *)back, 1);
     printf("read at the end: code %u\n", (unsigned)past.code);
-    mv_search_reply found = mv_search(image, sizeof image, map, sizeof map, table, state, 3);
-    state.search = found.search;
+    mv_search_reply found = mv_search(image, sizeof image, map, sizeof map, table, &state, 3);
     printf("search: code %u, %s %u\n", (unsigned)found.code, found.offer ? "offer" : "end", (unsigned)found.seq);
     printf("free pages: %zu of %d\n", mv_free_pages(map, sizeof map, state), PAGES);
     return 0;

@@ -121,12 +121,11 @@ typedef struct {
     uint32_t seq;
 } mv_seq_reply;
 
-/* a position on offer, or (offer is false) the search's result; the search as it is after the call: put it into state.search */
+/* a position on offer, or (offer is false) the search's result */
 typedef struct {
     uint32_t code;
     bool offer;
     uint32_t seq;
-    mv_search_state search;
 } mv_search_reply;
 
 /* an unmounted state; any seed will do */
@@ -152,13 +151,13 @@ mv_seq_reply mv_skip(const uint8_t *image, size_t image_len, const uint8_t *map,
 mv_seq_reply mv_seek(const uint8_t *image, size_t image_len, const uint8_t *map, size_t map_len, mv_table table,
                      mv_state state, uint8_t file, size_t offs);
 
-/* starts a search for a record of a file; the caller puts reply.search into state.search, here and in the next two */
+/* starts a search for a record of a file; the state is changed in place, here and in the next two */
 mv_search_reply mv_search(const uint8_t *image, size_t image_len, const uint8_t *map, size_t map_len, mv_table table,
-                          mv_state state, uint8_t file);
+                          mv_state *state, uint8_t file);
 /* what is searched lies left of the position on offer */
-mv_search_reply mv_left(const uint8_t *image, size_t image_len, const uint8_t *map, size_t map_len, mv_state state);
+mv_search_reply mv_left(const uint8_t *image, size_t image_len, const uint8_t *map, size_t map_len, mv_state *state);
 /* it lies there or right of it */
-mv_search_reply mv_right(const uint8_t *image, size_t image_len, const uint8_t *map, size_t map_len, mv_state state);
+mv_search_reply mv_right(const uint8_t *image, size_t image_len, const uint8_t *map, size_t map_len, mv_state *state);
 
 /* opens a writer at a file's end */
 mv_reply mv_open(const uint8_t *image, size_t image_len, uint8_t *map, size_t map_len, mv_table table, mv_state state,

@@ -18,10 +18,10 @@ macro_rules! call {
     };
 }
 
-// A search's answers look at no table.
+// A search changes the state in place, and its answers look at no table.
 macro_rules! answer {
-    ($self:ident . $name:ident ()) => {
-        unsafe { $name($self.image.as_ptr(), $self.image.len(), $self.map.as_ptr(), $self.map.len(), $self.state) }
+    ($self:ident . $name:ident ( $($arg:expr),* )) => {
+        unsafe { $name($self.image.as_ptr(), $self.image.len(), $self.map.as_ptr(), $self.map.len() $(, $arg)*) }
     };
 }
 
@@ -98,16 +98,15 @@ impl Ours {
     /// Searches the last record that starts at or before a number; gives its start and the offers on the way.
     #[inline(never)]
     pub fn search(&mut self, file: u8, target: u32) -> (u32, u32) {
-        let mut r = call!(self.mv_search(file));
+        let mut r = answer!(self.mv_search(self.table, &mut self.state, file));
         let mut offers = 0;
         loop {
             assert_eq!(r.code, 0);
-            self.state.search = r.search;
             if !r.offer {
                 return (r.seq, offers);
             }
             offers += 1;
-            r = if r.seq <= target { answer!(self.mv_right()) } else { answer!(self.mv_left()) };
+            r = if r.seq <= target { answer!(self.mv_right(&mut self.state)) } else { answer!(self.mv_left(&mut self.state)) };
         }
     }
 }

@@ -47,10 +47,10 @@ macro_rules! ask {
     };
 }
 
-// And for a search's answers, which look at no table.
+// And for a search, which changes the state in place.
 macro_rules! answer {
-    ($self:ident . $name:ident ()) => {
-        unsafe { raw::$name($self.image.as_ptr(), $self.image.len(), $self.map.as_ptr(), $self.map.len(), $self.state) }
+    ($self:ident . $name:ident ( $($arg:expr),* )) => {
+        unsafe { raw::$name($self.image.as_ptr(), $self.image.len(), $self.map.as_ptr(), $self.map.len() $(, $arg)*) }
     };
 }
 
@@ -82,8 +82,7 @@ impl<'a> Volume<'a> {
         Refusal::check(reply.code)
     }
 
-    fn found(&mut self, reply: raw::SearchReply) -> Result<Found, Refusal> {
-        self.state.search = reply.search;
+    fn found(reply: raw::SearchReply) -> Result<Found, Refusal> {
         Refusal::check(reply.code)?;
         Ok(if reply.offer { Found::Offer(reply.seq) } else { Found::End(reply.seq) })
     }
@@ -115,20 +114,17 @@ impl<'a> Volume<'a> {
 
     /// Starts a search for a record of a file.
     pub fn search(&mut self, file: u8) -> Result<Found, Refusal> {
-        let reply = ask!(self.mv_search(file));
-        self.found(reply)
+        Self::found(answer!(self.mv_search(self.table, &mut self.state, file)))
     }
 
     /// What is searched lies left of the position on offer.
     pub fn left(&mut self) -> Result<Found, Refusal> {
-        let reply = answer!(self.mv_left());
-        self.found(reply)
+        Self::found(answer!(self.mv_left(&mut self.state)))
     }
 
     /// It lies there or right of it.
     pub fn right(&mut self) -> Result<Found, Refusal> {
-        let reply = answer!(self.mv_right());
-        self.found(reply)
+        Self::found(answer!(self.mv_right(&mut self.state)))
     }
 
     /// Opens a writer at a file's end.

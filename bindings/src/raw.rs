@@ -99,7 +99,6 @@ pub struct SearchReply {
     pub code: u32,
     pub offer: bool,
     pub seq: u32,
-    pub search: Search,
 }
 
 #[rustfmt::skip]
@@ -113,9 +112,9 @@ extern "C" {
     pub fn mv_read(image: *const u8, image_len: usize, map: *const u8, map_len: usize, table: Table, state: State, file: u8, seq: u32, out: *mut u8, out_len: usize) -> SeqReply;
     pub fn mv_skip(image: *const u8, image_len: usize, map: *const u8, map_len: usize, table: Table, state: State, file: u8, seq: u32, len: usize) -> SeqReply;
     pub fn mv_seek(image: *const u8, image_len: usize, map: *const u8, map_len: usize, table: Table, state: State, file: u8, offs: usize) -> SeqReply;
-    pub fn mv_search(image: *const u8, image_len: usize, map: *const u8, map_len: usize, table: Table, state: State, file: u8) -> SearchReply;
-    pub fn mv_left(image: *const u8, image_len: usize, map: *const u8, map_len: usize, state: State) -> SearchReply;
-    pub fn mv_right(image: *const u8, image_len: usize, map: *const u8, map_len: usize, state: State) -> SearchReply;
+    pub fn mv_search(image: *const u8, image_len: usize, map: *const u8, map_len: usize, table: Table, state: *mut State, file: u8) -> SearchReply;
+    pub fn mv_left(image: *const u8, image_len: usize, map: *const u8, map_len: usize, state: *mut State) -> SearchReply;
+    pub fn mv_right(image: *const u8, image_len: usize, map: *const u8, map_len: usize, state: *mut State) -> SearchReply;
     pub fn mv_open(image: *const u8, image_len: usize, map: *mut u8, map_len: usize, table: Table, state: State, file: u8) -> Reply;
     pub fn mv_write(image: *mut u8, image_len: usize, map: *mut u8, map_len: usize, table: Table, state: State, bytes: *const u8, bytes_len: usize) -> Reply;
     pub fn mv_record_end(image: *const u8, image_len: usize, map: *const u8, map_len: usize, table: Table, state: State) -> Reply;

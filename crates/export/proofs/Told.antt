@@ -3,6 +3,7 @@ use mathlib.Core.Path.{_≡_, ap, _∙_}
 use mathlib.Core.List.{List}
 use Prim.Native.Nat.{ℕ}
 use Rattle.state.specs.declared.types.Table.{Table}
+use Rattle.state.specs.declared.types.Search.{Search}
 use Rattle.state.specs.declared.types.State.{State}
 use Rattle.state.specs.declared.types.Done.{Done}
 use Rattle.state.specs.declared.types.Out.{Out}
@@ -16,7 +17,8 @@ use Rattle.search.specs.Told.{afterSearch}
 use Rattle.export.specs.declared.replies.Reply.{Reply}
 use Rattle.export.specs.declared.replies.SeqReply.{SeqReply}
 use Rattle.export.specs.declared.replies.SearchReply.{SearchReply}
-use Rattle.export.specs.Replies.{codeOf, replyOf, Replied, readReply, ReadReplied, answerCode, offers, answerSeq, soughtReply, SearchReplied}
+use Rattle.export.specs.declared.replies.SearchParts.{SearchParts}
+use Rattle.export.specs.Replies.{codeOf, replyOf, Replied, readReply, ReadReplied, answerReply, soughtReply, SearchReplied, SoughtReplied}
 
 -- of a call that changes
 pub replied-is : (r : Reply) (o : Out) (i m : List ℕ) (a : After Done) → r ≡ replyOf o → after o i m ≡ a → Replied r i m a
@@ -36,12 +38,16 @@ read-is r o out a e f =
     }
 
 -- of a search
-pub sought-is : (r : SearchReply) (o : SearchOut) (i m : List ℕ) (t : Table) (s : State) (a : After Answer) → r ≡ soughtReply o → afterSearch o i m t s ≡ a
-    → SearchReplied r i m t s a
+pub sought-is : (r : SearchParts) (o : SearchOut) (i m : List ℕ) (t : Table) (s : State) (a : After Answer) → r ≡ soughtReply o → afterSearch o i m t s ≡ a
+    → SoughtReplied r i m t s a
 sought-is r o i m t s a e f =
     record {
-      code = ap (λ (x : SearchReply). x .code) e ∙ ap (λ (x : After Answer). answerCode (x .answer)) f;
-      offer = ap (λ (x : SearchReply). x .offer) e ∙ ap (λ (x : After Answer). offers (x .answer)) f;
-      seq = ap (λ (x : SearchReply). x .seq) e ∙ ap (λ (x : After Answer). answerSeq (x .answer)) f;
-      world = ap (λ (x : SearchReply). before i m t (withSearch s (x .search))) e ∙ ap (λ (x : After Answer). x .world) f;
+      reply = ap (λ (x : SearchParts). x .reply) e ∙ ap (λ (x : After Answer). answerReply (x .answer)) f;
+      world = ap (λ (x : SearchParts). before i m t (withSearch s (x .search))) e ∙ ap (λ (x : After Answer). x .world) f;
     }
+
+-- of its two parts, in place
+pub parts-are : (r : SearchReply) (q : Search) (o : SearchParts) (i m : List ℕ) (t : Table) (s : State) (a : After Answer) → r ≡ o .reply → q ≡ o .search
+    → SoughtReplied o i m t s a → SearchReplied r i m t (withSearch s q) a
+parts-are r q o i m t s a e f g =
+    record { reply = e ∙ g .reply; world = ap (λ (x : Search). before i m t (withSearch s x)) f ∙ g .world }

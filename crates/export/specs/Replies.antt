@@ -25,6 +25,7 @@ use Rattle.export.specs.declared.replies.Reply.{Reply}
 use Rattle.export.specs.declared.replies.LocateReply.{LocateReply}
 use Rattle.export.specs.declared.replies.SeqReply.{SeqReply}
 use Rattle.export.specs.declared.replies.SearchReply.{SearchReply}
+use Rattle.export.specs.declared.replies.SearchParts.{SearchParts}
 
 -- 0, or document 01's number of the refusal
 abbrev pub codeOf : Done → ℕ
@@ -79,12 +80,17 @@ answerSeq (A.Offer seq) = seq
 answerSeq (A.End seq) = seq
 answerSeq (A.Refused why) = 0
 
-abbrev pub soughtReply : SearchOut → SearchReply
-soughtReply o = record { code = answerCode (o .answer); offer = offers (o .answer); seq = answerSeq (o .answer); search = o .search }
+abbrev pub answerReply : Answer → SearchReply
+answerReply a = record { code = answerCode a; offer = offers a; seq = answerSeq a }
 
--- image, map and table stay, and so does the state but for its search
+abbrev pub soughtReply : SearchOut → SearchParts
+soughtReply o = record { reply = answerReply (o .answer); search = o .search }
+
+-- the reply is the answer's, and image, map, table and state are the world after the call
 pub record SearchReplied (r : SearchReply) (image map : List ℕ) (table : Table) (state : State) (a : After Answer) : Type 0 where
-  pub code : r .code ≡ answerCode (a .answer)
-  pub offer : r .offer ≡ offers (a .answer)
-  pub seq : r .seq ≡ answerSeq (a .answer)
-  pub world : before image map table (withSearch state (r .search)) ≡ a .world
+  pub reply : r ≡ answerReply (a .answer)
+  pub world : before image map table state ≡ a .world
+
+-- the same of the parts, where the state is that before the call
+abbrev pub SoughtReplied : SearchParts → List ℕ → List ℕ → Table → State → After Answer → Type 0
+SoughtReplied s image map table state a = SearchReplied (s .reply) image map table (withSearch state (s .search)) a

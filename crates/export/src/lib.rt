@@ -4,6 +4,7 @@ use replies::LocateReply;
 use replies::Reply;
 use replies::SearchReply;
 use replies::SeqReply;
+use replies::SearchParts;
 use state::types::Done;
 use state::types::Out;
 use state::types::State;
@@ -24,7 +25,7 @@ ghost use Rattle.writer.specs.Finish.{finish, discard};
 ghost use Rattle.transact.specs.Truncate.{truncate};
 ghost use Rattle.transact.specs.Rename.{rename, flags as changedBy};
 ghost use Rattle.transact.specs.Commit.{commit};
-ghost use Rattle.export.specs.Replies.{Replied, ReadReplied, SearchReplied, locatedReply, skippedReply};
+ghost use Rattle.export.specs.Replies.{Replied, ReadReplied, SearchReplied, SoughtReplied, locatedReply, skippedReply};
 
 mod replies;
 
@@ -122,32 +123,57 @@ pub extern "C" fn mv_seek(
     replies::skipped(reader::seek(image, map, table, state, file, offs))
 }
 
-// Starts a search for a record of a file.
+// Starts a search for a record of a file. The state is the caller's and is changed in place, as in the next two calls.
 #[no_mangle]
 pub extern "C" fn mv_search(
     image: &[u8],
     map: &[u8],
     table: Table,
-    state: State,
+    state: &mut State,
     file: u8,
 ) -> SearchReply
-    ensures { λ r. ⌜ SearchReplied r (now (image .entry)) (now (map .entry)) table state (result (λ w. start w file) (before (now (image .entry)) (now (map .entry)) table state)) ⌝ }
+    ensures { λ r. ⌜ SearchReplied r (now (image .entry)) (now (map .entry)) table (now (state .exit)) (result (λ w. start w file) (before (now (image .entry)) (now (map .entry)) table (now (state .entry)))) ⌝ }
 {
-    replies::sought(search::search::search(image, map, table, state, file))
+    let out = searched(image, map, table, *state, file);
+    state.search = replies::search_in(out);
+    replies::reply_in(out)
 }
 
 // What is searched lies left of the position on offer.
 #[no_mangle]
-pub extern "C" fn mv_left(image: &[u8], map: &[u8], state: State) -> SearchReply
-    ensures { λ r. ⌜ ((t : Table) → SearchReplied r (now (image .entry)) (now (map .entry)) t state (result left (before (now (image .entry)) (now (map .entry)) t state))) ⌝ }
+pub extern "C" fn mv_left(image: &[u8], map: &[u8], state: &mut State) -> SearchReply
+    ensures { λ r. ⌜ ((t : Table) → SearchReplied r (now (image .entry)) (now (map .entry)) t (now (state .exit)) (result left (before (now (image .entry)) (now (map .entry)) t (now (state .entry))))) ⌝ }
 {
-    replies::sought(search::search::left(image, map, state))
+    let out = to_left(image, map, *state);
+    state.search = replies::search_in(out);
+    replies::reply_in(out)
 }
 
 // It lies there or right of it.
 #[no_mangle]
-pub extern "C" fn mv_right(image: &[u8], map: &[u8], state: State) -> SearchReply
-    ensures { λ r. ⌜ ((t : Table) → SearchReplied r (now (image .entry)) (now (map .entry)) t state (result right (before (now (image .entry)) (now (map .entry)) t state))) ⌝ }
+pub extern "C" fn mv_right(image: &[u8], map: &[u8], state: &mut State) -> SearchReply
+    ensures { λ r. ⌜ ((t : Table) → SearchReplied r (now (image .entry)) (now (map .entry)) t (now (state .exit)) (result right (before (now (image .entry)) (now (map .entry)) t (now (state .entry))))) ⌝ }
+{
+    let out = to_right(image, map, *state);
+    state.search = replies::search_in(out);
+    replies::reply_in(out)
+}
+
+// The three by value.
+fn searched(image: &[u8], map: &[u8], table: Table, state: State, file: u8) -> SearchParts
+    ensures { λ r. ⌜ SoughtReplied r (now (image .entry)) (now (map .entry)) table state (result (λ w. start w file) (before (now (image .entry)) (now (map .entry)) table state)) ⌝ }
+{
+    replies::sought(search::search::search(image, map, table, state, file))
+}
+
+fn to_left(image: &[u8], map: &[u8], state: State) -> SearchParts
+    ensures { λ r. ⌜ ((t : Table) → SoughtReplied r (now (image .entry)) (now (map .entry)) t state (result left (before (now (image .entry)) (now (map .entry)) t state))) ⌝ }
+{
+    replies::sought(search::search::left(image, map, state))
+}
+
+fn to_right(image: &[u8], map: &[u8], state: State) -> SearchParts
+    ensures { λ r. ⌜ ((t : Table) → SoughtReplied r (now (image .entry)) (now (map .entry)) t state (result right (before (now (image .entry)) (now (map .entry)) t state))) ⌝ }
 {
     replies::sought(search::search::right(image, map, state))
 }

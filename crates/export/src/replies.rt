@@ -10,7 +10,7 @@ use state::types::Search;
 use state::types::State;
 use state::types::Table;
 ghost use mathlib.Core.Path.{_≡_};
-ghost use Rattle.export.specs.Replies.{codeOf, replyOf, locatedReply, readReply, skippedReply, soughtReply};
+ghost use Rattle.export.specs.Replies.{codeOf, replyOf, locatedReply, readReply, skippedReply, answerReply, soughtReply};
 
 // Of a call that changes: table and state are those after it.
 #[repr(C)]
@@ -35,12 +35,17 @@ pub struct SeqReply {
     pub seq: u32,
 }
 
-// A position on offer, or the search's result at its end; the search is that after the call, and nothing else of the state changes.
+// A position on offer, or the search's result at its end.
 #[repr(C)]
 pub struct SearchReply {
     pub code: u32,
     pub offer: bool,
     pub seq: u32,
+}
+
+// A search's reply, and the search as it is then.
+pub struct SearchParts {
+    pub reply: SearchReply,
     pub search: Search,
 }
 
@@ -104,29 +109,46 @@ pub fn skipped(to: Skipped) -> SeqReply
     }
 }
 
-pub fn sought(out: SearchOut) -> SearchReply
-    ensures { λ r. ⌜ r ≡ soughtReply out ⌝ }
+pub fn answer_of(answer: Answer) -> SearchReply
+    ensures { λ r. ⌜ r ≡ answerReply answer ⌝ }
 {
-    let answer = out.answer;
-    let search = out.search;
     match answer {
         Answer::Offer(seq) => SearchReply {
             code: 0,
             offer: true,
             seq,
-            search,
         },
         Answer::End(seq) => SearchReply {
             code: 0,
             offer: false,
             seq,
-            search,
         },
         Answer::Refused(why) => SearchReply {
             code: code_of(Done::Refused(why)),
             offer: false,
             seq: 0,
-            search,
         },
     }
+}
+
+pub fn sought(out: SearchOut) -> SearchParts
+    ensures { λ r. ⌜ r ≡ soughtReply out ⌝ }
+{
+    let answer = out.answer;
+    let search = out.search;
+    let reply = answer_of(answer);
+    SearchParts { reply, search }
+}
+
+// Its two parts, for the calls that change the caller's state in place.
+pub fn reply_in(s: SearchParts) -> SearchReply
+    ensures { λ r. ⌜ r ≡ s .reply ⌝ }
+{
+    s.reply
+}
+
+pub fn search_in(s: SearchParts) -> Search
+    ensures { λ r. ⌜ r ≡ s .search ⌝ }
+{
+    s.search
 }
