@@ -151,13 +151,12 @@ mv_seq_reply mv_skip(const uint8_t *image, size_t image_len, const uint8_t *map,
 mv_seq_reply mv_seek(const uint8_t *image, size_t image_len, const uint8_t *map, size_t map_len, mv_table table,
                      mv_state state, uint8_t file, size_t offs);
 
-/* starts a search for a record of a file; the state is changed in place, here and in the next two */
+/* starts a search for a record of a file; the state is changed in place, here and in the next */
 mv_search_reply mv_search(const uint8_t *image, size_t image_len, const uint8_t *map, size_t map_len, mv_table table,
                           mv_state *state, uint8_t file);
-/* what is searched lies left of the position on offer */
-mv_search_reply mv_left(const uint8_t *image, size_t image_len, const uint8_t *map, size_t map_len, mv_state *state);
-/* it lies there or right of it */
-mv_search_reply mv_right(const uint8_t *image, size_t image_len, const uint8_t *map, size_t map_len, mv_state *state);
+/* answers the position on offer: what is searched lies left of it (false), or there or right of it (true) */
+mv_search_reply mv_turn(const uint8_t *image, size_t image_len, const uint8_t *map, size_t map_len, mv_state *state,
+                        bool to_right);
 
 /* opens a writer at a file's end */
 mv_reply mv_open(const uint8_t *image, size_t image_len, uint8_t *map, size_t map_len, mv_table table, mv_state state,

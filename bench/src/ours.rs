@@ -106,7 +106,7 @@ impl Ours {
                 return (r.seq, offers);
             }
             offers += 1;
-            r = if r.seq <= target { answer!(self.mv_right(&mut self.state)) } else { answer!(self.mv_left(&mut self.state)) };
+            r = answer!(self.mv_turn(&mut self.state, r.seq <= target));
         }
     }
 }

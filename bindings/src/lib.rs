@@ -119,12 +119,12 @@ impl<'a> Volume<'a> {
 
     /// What is searched lies left of the position on offer.
     pub fn left(&mut self) -> Result<Found, Refusal> {
-        Self::found(answer!(self.mv_left(&mut self.state)))
+        Self::found(answer!(self.mv_turn(&mut self.state, false)))
     }
 
     /// It lies there or right of it.
     pub fn right(&mut self) -> Result<Found, Refusal> {
-        Self::found(answer!(self.mv_right(&mut self.state)))
+        Self::found(answer!(self.mv_turn(&mut self.state, true)))
     }
 
     /// Opens a writer at a file's end.

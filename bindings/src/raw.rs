@@ -113,8 +113,7 @@ extern "C" {
     pub fn mv_skip(image: *const u8, image_len: usize, map: *const u8, map_len: usize, table: Table, state: State, file: u8, seq: u32, len: usize) -> SeqReply;
     pub fn mv_seek(image: *const u8, image_len: usize, map: *const u8, map_len: usize, table: Table, state: State, file: u8, offs: usize) -> SeqReply;
     pub fn mv_search(image: *const u8, image_len: usize, map: *const u8, map_len: usize, table: Table, state: *mut State, file: u8) -> SearchReply;
-    pub fn mv_left(image: *const u8, image_len: usize, map: *const u8, map_len: usize, state: *mut State) -> SearchReply;
-    pub fn mv_right(image: *const u8, image_len: usize, map: *const u8, map_len: usize, state: *mut State) -> SearchReply;
+    pub fn mv_turn(image: *const u8, image_len: usize, map: *const u8, map_len: usize, state: *mut State, to_right: bool) -> SearchReply;
     pub fn mv_open(image: *const u8, image_len: usize, map: *mut u8, map_len: usize, table: Table, state: State, file: u8) -> Reply;
     pub fn mv_write(image: *mut u8, image_len: usize, map: *mut u8, map_len: usize, table: Table, state: State, bytes: *const u8, bytes_len: usize) -> Reply;
     pub fn mv_record_end(image: *const u8, image_len: usize, map: *const u8, map_len: usize, table: Table, state: State) -> Reply;

@@ -68,6 +68,28 @@ made h q v is q-is =
     let e : v ≡ LL.val Q.the-type Q′.the-laws q = ap first (LL.tells Q.the-type Q′.the-laws q (v ∷ []) q-is) in
     let fs = LL.owed T.the-type T′.the-laws h (vals h) is in
     subst (λ (y : Val). Is T.the-row (withSearch h q) (mach h y ∷ [])) (sym e)
-    (LL.owes T.the-type T′.the-laws (withSearch h q)
-    (fs .0, (fs .1 .0, (fs .1 .1 .0, (fs .1 .1 .1 .0, (fs .1 .1 .1 .1 .0, (fs .1 .1 .1 .1 .1 .0, (fs .1 .1 .1 .1 .1 .1 .0, (fs .1 .1 .1 .1 .1 .1 .1 .0,
-    (fs .1 .1 .1 .1 .1 .1 .1 .1 .0, (LL.owes Q.the-type Q′.the-laws q (LL.owed Q.the-type Q′.the-laws q (v ∷ []) q-is), tt)))))))))))
+    (LL.owes T.the-type T′.the-laws (withSearch h q) (
+      fs .0,
+      (
+        fs .1 .0,
+        (
+          fs .1 .1 .0,
+          (
+            fs .1 .1 .1 .0,
+            (
+              fs .1 .1 .1 .1 .0,
+              (
+                fs .1 .1 .1 .1 .1 .0,
+                (
+                  fs .1 .1 .1 .1 .1 .1 .0,
+                  (
+                    fs .1 .1 .1 .1 .1 .1 .1 .0,
+                    (fs .1 .1 .1 .1 .1 .1 .1 .1 .0, (LL.owes Q.the-type Q′.the-laws q (LL.owed Q.the-type Q′.the-laws q (v ∷ []) q-is), tt)),
+                  ),
+                ),
+              ),
+            ),
+          ),
+        ),
+      ),
+    ))

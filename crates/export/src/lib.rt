@@ -2,9 +2,9 @@
 use reader::Reader;
 use replies::LocateReply;
 use replies::Reply;
+use replies::SearchParts;
 use replies::SearchReply;
 use replies::SeqReply;
-use replies::SearchParts;
 use state::types::Done;
 use state::types::Out;
 use state::types::State;
@@ -18,7 +18,7 @@ ghost use Rattle.reader.specs.Ask.{freePages, usedPages};
 ghost use Rattle.reader.specs.Locate.{locate};
 ghost use Rattle.reader.specs.Read.{read};
 ghost use Rattle.reader.specs.Skip.{skip, seekOffset};
-ghost use Rattle.search.specs.Search.{start, left, right};
+ghost use Rattle.search.specs.Search.{start, turn};
 ghost use Rattle.writer.specs.Open.{openWriter};
 ghost use Rattle.writer.specs.Write.{write, recordEnd};
 ghost use Rattle.writer.specs.Finish.{finish, discard};
@@ -123,7 +123,7 @@ pub extern "C" fn mv_seek(
     replies::skipped(reader::seek(image, map, table, state, file, offs))
 }
 
-// Starts a search for a record of a file. The state is the caller's and is changed in place, as in the next two calls.
+// Starts a search for a record of a file. The state is the caller's and is changed in place, as in the next call.
 #[no_mangle]
 pub extern "C" fn mv_search(
     image: &[u8],
@@ -139,43 +139,32 @@ pub extern "C" fn mv_search(
     replies::reply_in(out)
 }
 
-// What is searched lies left of the position on offer.
+// Answers the position on offer: what is searched lies left of it, or there or right of it.
 #[no_mangle]
-pub extern "C" fn mv_left(image: &[u8], map: &[u8], state: &mut State) -> SearchReply
-    ensures { λ r. ⌜ ((t : Table) → SearchReplied r (now (image .entry)) (now (map .entry)) t (now (state .exit)) (result left (before (now (image .entry)) (now (map .entry)) t (now (state .entry))))) ⌝ }
+pub extern "C" fn mv_turn(
+    image: &[u8],
+    map: &[u8],
+    state: &mut State,
+    to_right: bool,
+) -> SearchReply
+    ensures { λ r. ⌜ ((t : Table) → SearchReplied r (now (image .entry)) (now (map .entry)) t (now (state .exit)) (result (turn «to_right») (before (now (image .entry)) (now (map .entry)) t (now (state .entry))))) ⌝ }
 {
-    let out = to_left(image, map, *state);
+    let out = turned(image, map, *state, to_right);
     state.search = replies::search_in(out);
     replies::reply_in(out)
 }
 
-// It lies there or right of it.
-#[no_mangle]
-pub extern "C" fn mv_right(image: &[u8], map: &[u8], state: &mut State) -> SearchReply
-    ensures { λ r. ⌜ ((t : Table) → SearchReplied r (now (image .entry)) (now (map .entry)) t (now (state .exit)) (result right (before (now (image .entry)) (now (map .entry)) t (now (state .entry))))) ⌝ }
-{
-    let out = to_right(image, map, *state);
-    state.search = replies::search_in(out);
-    replies::reply_in(out)
-}
-
-// The three by value.
+// The two by value.
 fn searched(image: &[u8], map: &[u8], table: Table, state: State, file: u8) -> SearchParts
     ensures { λ r. ⌜ SoughtReplied r (now (image .entry)) (now (map .entry)) table state (result (λ w. start w file) (before (now (image .entry)) (now (map .entry)) table state)) ⌝ }
 {
     replies::sought(search::search::search(image, map, table, state, file))
 }
 
-fn to_left(image: &[u8], map: &[u8], state: State) -> SearchParts
-    ensures { λ r. ⌜ ((t : Table) → SoughtReplied r (now (image .entry)) (now (map .entry)) t state (result left (before (now (image .entry)) (now (map .entry)) t state))) ⌝ }
+fn turned(image: &[u8], map: &[u8], state: State, to_right: bool) -> SearchParts
+    ensures { λ r. ⌜ ((t : Table) → SoughtReplied r (now (image .entry)) (now (map .entry)) t state (result (turn «to_right») (before (now (image .entry)) (now (map .entry)) t state))) ⌝ }
 {
-    replies::sought(search::search::left(image, map, state))
-}
-
-fn to_right(image: &[u8], map: &[u8], state: State) -> SearchParts
-    ensures { λ r. ⌜ ((t : Table) → SoughtReplied r (now (image .entry)) (now (map .entry)) t state (result right (before (now (image .entry)) (now (map .entry)) t state))) ⌝ }
-{
-    replies::sought(search::search::right(image, map, state))
+    replies::sought(search::search::turn(image, map, state, to_right))
 }
 
 // Opens a writer at a file's end.

@@ -26,7 +26,7 @@ use Rattle.search.specs.declared.hunt.Kind.the-variants.{Offered, Ended,
 use Rattle.search.specs.declared.hunt.Hunted.{Hunted}
 use Rattle.search.specs.declared.search.Stand.{Stand}
 use Rattle.search.specs.Hunt.{Sought, offered, ended, broken, hunt}
-use Rattle.search.specs.Search.{offering, answering, soughtBy, sought, startOf, startIn, start, answered}
+use Rattle.search.specs.Search.{offering, answering, soughtBy, sought, startOf, startIn, start, leftOf, rightOf, answered, turn}
 use Rattle.search.specs.Told.{told, replied, begun, afterSearch}
 
 -- ---- an answer by where the hunt stands
@@ -138,3 +138,8 @@ module _ (w : World) (f : Search → Stand) where
   answer-replied r s e a g u =
       let q = w .state .search in
       rw (u, g) (ap (finished w) (made-sought w (f q) (hunt (w .state .«page_count») (readAt (w .image)) (f q .left) (f q .right) (f q .links)) ∙ sym (answered-is e a)))
+
+-- which way the answer puts it says which of the two calls it is
+pub turned : (b : Bool) (w : World) → result (λ w. answered w (cond b rightOf leftOf)) w ≡ result (turn b) w
+turned true w = refl
+turned false w = refl

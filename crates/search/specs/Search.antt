@@ -1,6 +1,6 @@
 -- Search: start, left and right, by document 01, "Reading and search"; DECISIONS 6 and 23. Assumes nothing: these are definitions.
 use Prim.Native.Nat.{ℕ, _+_}
-use mathlib.Core.Bool.{true, false, cond}
+use mathlib.Core.Bool.{Bool, true, false, cond}
 use mathlib.Core.List.{[]}
 use Rattle.chain.specs.Files.{lastOf}
 use Rattle.chain.specs.Links.{linksAfter}
@@ -75,3 +75,8 @@ left w = answered w leftOf
 
 abbrev pub right : World → Outcome Answer
 right w = answered w rightOf
+
+-- either of them
+abbrev pub turn : Bool → World → Outcome Answer
+turn true w = right w
+turn false w = left w

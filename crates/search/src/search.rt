@@ -10,13 +10,12 @@ use state::types::Search;
 use state::types::State;
 use state::types::Table;
 ghost use mathlib.Core.Path.{_≡_};
-ghost use mathlib.Core.Bool.{cond};
 ghost use Prim.Native.Nat.{_≤_};
 ghost use Rattle.seq.specs.Seq.{limit};
 ghost use Rattle.chain.specs.Steps.{readAt};
 ghost use Rattle.state.specs.World.{before, result};
 ghost use Rattle.search.specs.Hunt.{hunt};
-ghost use Rattle.search.specs.Search.{offering, startOf, leftOf, rightOf, start, answered, left, right};
+ghost use Rattle.search.specs.Search.{offering, startOf, leftOf, rightOf, start, left, right, turn};
 ghost use Rattle.search.specs.Told.{afterSearch, replied, begun};
 
 // Where a search stands before it seeks.
@@ -171,9 +170,9 @@ pub fn search(image: &[u8], map: &[u8], table: Table, state: State, file: u8) ->
 
 // ---- left and right
 
-// The answer to the position on offer. No table is looked at.
-fn answered(image: &[u8], map: &[u8], state: State, to_right: bool) -> SearchOut
-    ensures { λ r. ⌜ ((t : Table) → afterSearch r (now (image .entry)) (now (map .entry)) t state ≡ result (λ w. answered w (cond «to_right» rightOf leftOf)) (before (now (image .entry)) (now (map .entry)) t state)) ⌝ }
+// The answer to the position on offer, right or left. No table is looked at.
+pub fn turn(image: &[u8], map: &[u8], state: State, to_right: bool) -> SearchOut
+    ensures { λ r. ⌜ ((t : Table) → afterSearch r (now (image .entry)) (now (map .entry)) t state ≡ result (turn «to_right») (before (now (image .entry)) (now (map .entry)) t state)) ⌝ }
 {
     let q = state.search;
     let passed = state::checks::check(image.len(), map.len(), state, state.transaction, 0);
@@ -197,12 +196,12 @@ fn answered(image: &[u8], map: &[u8], state: State, to_right: bool) -> SearchOut
 pub fn left(image: &[u8], map: &[u8], state: State) -> SearchOut
     ensures { λ r. ⌜ ((t : Table) → afterSearch r (now (image .entry)) (now (map .entry)) t state ≡ result left (before (now (image .entry)) (now (map .entry)) t state)) ⌝ }
 {
-    answered(image, map, state, false)
+    turn(image, map, state, false)
 }
 
 // It lies there or right of it.
 pub fn right(image: &[u8], map: &[u8], state: State) -> SearchOut
     ensures { λ r. ⌜ ((t : Table) → afterSearch r (now (image .entry)) (now (map .entry)) t state ≡ result right (before (now (image .entry)) (now (map .entry)) t state)) ⌝ }
 {
-    answered(image, map, state, true)
+    turn(image, map, state, true)
 }

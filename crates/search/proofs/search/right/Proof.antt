@@ -5,7 +5,7 @@ use Rattle.search.proofs.search.right.Statement.{statement}
 use Rattle.search.proofs.search.right.Tie as tie
 
 returns : tie.Need-returns
-returns c = c .answered .ensures
+returns c = c .turn .ensures
 
 pub right-spec : {M : Type 1} → statement M
 right-spec = tie.close (tie.spec (λ c κs. search needs) returns)

@@ -27,8 +27,7 @@ returns-2 : tie.Need-returns-2
 returns-2 c =
     let w = c .before in
     let s = w .before .before .before .before .before .before in
-    let a = s .args in
-    (
+    let a = s .args in (
       c .if2 .left ∙ follows-not (now (a .image)) (a .count) (a .f) (a .first) (s .pre) (shaped w) _ (last w) _ (w .walk-back .ensures) (c .if2 .left),
       λ z. edge-is (now (a .image)) (a .count) (a .f) (a .first) (s .pre) (shaped w) _ (last w) _ (w .walk-back .ensures),
     )
@@ -37,8 +36,7 @@ returns-3 : tie.Need-returns-3
 returns-3 c =
     let w = c .before .before .before in
     let s = w .before .before .before .before .before .before in
-    let a = s .args in
-    (
+    let a = s .args in (
       follows-on (now (a .image)) (a .count) (a .f) (a .first) (s .pre) (shaped w) _ (last w) _ (w .walk-back .ensures) _ (c .walk-back2 .ensures) (c .before .before .if2 .taken),
       λ z. edge-is (now (a .image)) (a .count) (a .f) (a .first) (s .pre) (shaped w) _ (last w) _ (w .walk-back .ensures),
     )
