@@ -261,24 +261,26 @@ fn seek_to_page(
     let seen = page.seen;
     let header = page.header;
     match seen {
-        Seen::Wrong => without(Kind::Broken),
+        Seen::Wrong => {
+            return without(Kind::Broken);
+        }
         Seen::Hit => {
             let offer = offer_on(target, header);
-            Hunted {
+            return Hunted {
                 kind: Kind::Offered,
                 left,
                 offer,
-            }
+            };
         }
         Seen::TooLeft => {
             if level == 0 {
                 return without(Kind::Ended);
             }
-            really_seek(image, count, right, links, level - 1, target + 1)
+            return really_seek(image, count, right, links, level - 1, target + 1);
         }
         Seen::Back => {
             let prev = header.skiplist[0];
-            seek_to_page(
+            return seek_to_page(
                 image,
                 count,
                 right,
@@ -288,7 +290,7 @@ fn seek_to_page(
                 target,
                 header.seq,
                 prev,
-            )
+            );
         }
     }
 }
