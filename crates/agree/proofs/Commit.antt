@@ -1,4 +1,5 @@
 -- Commit keeps the invariant, and what it commits is the table on the pages as they stand. Assumes nothing.
+use Rattle.agree.proofs.Seen.{sees-on}
 use Rattle.agree.proofs.Keeps.{known}
 use Rattle.seq.specs.Ids as ids
 use borrow.Author.Tests.{not-true, not-false}
@@ -144,23 +145,8 @@ module _ {D : Type 0} {N : ℕ} {w : World} {b : Base} {own : ℕ → Owner} (g 
                 good =
                     record {
                       sees =
-                          record {
-                            size = s .size;
-                            big = s .big;
-                            small = s .small;
-                            bytes = s .bytes;
-                            mp = s .mp;
-                            mseq = s .mseq;
-                            pc = s .pc;
-                            cursor = s .cursor;
-                            flag = s .flag;
-                            pages = s .pages;
-                            search = s .search;
-                            owners = mapped-release (s .owners);
-                            eight = s .eight;
-                            recs = s .recs;
-                            wr = λ e. clash cc;
-                          };
+                          sees-on s _ _ (refl, refl, refl) (refl, refl, refl, refl, refl, refl) (s .bytes) (s .cursor) (s .search)
+                          (mapped-release (s .owners)) (s .eight) (s .recs) (λ e. clash cc);
                       inv = inv-is (now-is (λ i. refl) (λ x. refl) (λ i. refl) refl (sym (shut-now g off))) (inv-settled (c .dirty) (commit-none (g .inv) (shut-now g off) z));
                       rules = λ d. record { now = g .rules d .now; base = g .rules d .now; wr = λ e. clash cc };
                     };
@@ -203,23 +189,11 @@ module _ {D : Type 0} {N : ℕ} {w : World} {b : Base} {own : ℕ → Owner} (g 
                 good =
                     record {
                       sees =
-                          record {
-                            size = ran-length (w .image) l ∙ s .size;
-                            big = s .big;
-                            small = s .small;
-                            bytes = bytes-ran (w .image) l (batch-bytes (w .state .«meta_page») e (dirtyFiles (w .table)) fit) (s .bytes);
-                            mp = s .mp;
-                            mseq = s .mseq;
-                            pc = s .pc;
-                            cursor = s .cursor;
-                            flag = s .flag;
-                            pages = s .pages;
-                            search = s .search;
-                            owners = mapped-release (s .owners);
-                            eight = s .eight;
-                            recs = record-kept l (w .state .«meta_page») (batch-on (w .state .«meta_page») e (dirtyFiles (w .table))) (λ i o. let u : meta ≡ file i = sym (ap own (s .mp) ∙ g .inv .owners .meta-at) ∙ o in clash cc);
-                            wr = λ e. clash cc;
-                          };
+                          sees-on s _ _ (refl, refl, refl) (ran-length (w .image) l, refl, refl, refl, refl, refl)
+                          (bytes-ran (w .image) l (batch-bytes (w .state .«meta_page») e (dirtyFiles (w .table)) fit) (s .bytes)) (s .cursor)
+                          (s .search) (mapped-release (s .owners)) (s .eight)
+                          (record-kept l (w .state .«meta_page») (batch-on (w .state .«meta_page») e (dirtyFiles (w .table))) (λ i o. let u : meta ≡ file i = sym (ap own (s .mp) ∙ g .inv .owners .meta-at) ∙ o in clash cc))
+                          (λ e. clash cc);
                       inv =
                           inv-is (now-is (λ i. refl) (λ x. refl) (λ i. refl) refl (sym (shut-now g off)))
                           (inv-settled (c .dirty) (commit-append (g .inv) (shut-now g off) (adds (b .pc) (g .inv .mounted .log) (dirtyFiles (w .table))) change ok dirty-vals));

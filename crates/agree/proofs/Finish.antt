@@ -27,6 +27,7 @@ use Rattle.chain.specs.declared.PagePointer.{PagePointer}
 use Rattle.agree.specs.Good.{RecordOk, Good, Known}
 use Rattle.agree.specs.Rules.{Reaches, ChainOf, stagedPage, Rules}
 use Rattle.agree.specs.View.{view, code, Mapped, asFile, recAt, asWriter, nowOf}
+use Rattle.agree.proofs.Seen.{sees-on}
 use Rattle.agree.proofs.Hunts.{no-search-ok}
 use Rattle.agree.proofs.Keeps.{Keeps, cond-by, checked-by, writer-shut, writer-ready, writer-staged, known}
 use Rattle.agree.proofs.Maps.{mapped-same, mapped-finish, setAll, mapped-all}
@@ -98,23 +99,8 @@ module _ {D : Type 0} {N : ℕ} {w : World} {b : Base} {own : ℕ → Owner} (g 
         good =
             record {
               sees =
-                  record {
-                    size = s .size;
-                    big = s .big;
-                    small = s .small;
-                    bytes = s .bytes;
-                    mp = s .mp;
-                    mseq = s .mseq;
-                    pc = s .pc;
-                    cursor = s .cursor;
-                    flag = s .flag;
-                    pages = s .pages;
-                    search = s .search;
-                    owners = mapped;
-                    eight = s .eight;
-                    recs = s .recs;
-                    wr = λ e. clash cc;
-                  };
+                  sees-on s _ _ (refl, refl, refl) (refl, refl, refl, refl, refl, refl) (s .bytes) (s .cursor) (s .search) mapped (s .eight)
+                  (s .recs) (λ e. clash cc);
               inv = inv-is (now-is (λ i. refl) (λ x. refl) (λ i. refl) refl (sym none-shut)) v;
               rules = λ d. record { now = g .rules d .now; base = g .rules d .base; wr = λ e. clash cc };
             };
@@ -138,23 +124,10 @@ module _ {D : Type 0} {N : ℕ} {w : World} {b : Base} {own : ℕ → Owner} (g 
         good =
             record {
               sees =
-                  record {
-                    size = ran-length (w .image) (flushStores x) ∙ s .size;
-                    big = s .big;
-                    small = s .small;
-                    bytes = flush-bytes m;
-                    mp = s .mp;
-                    mseq = s .mseq;
-                    pc = s .pc;
-                    cursor = s .cursor;
-                    flag = s .flag;
-                    pages = s .pages;
-                    search = no-search-ok;
-                    owners = mapped-finish (x .file) (x .copied) (s .owners) (λ k. omega (arith, copied-in (x .file) (x .copied) (g .inv .owners) (m .staged .copy) k, m .inside));
-                    eight = with-eight (w .table) (x .file) f′ l ∙ s .eight;
-                    recs = recs;
-                    wr = λ e. clash cc;
-                  };
+                  sees-on s _ _ (refl, refl, refl) (ran-length (w .image) (flushStores x), refl, refl, refl, refl, refl) (flush-bytes m) (s .cursor)
+                  no-search-ok
+                  (mapped-finish (x .file) (x .copied) (s .owners) (λ k. omega (arith, copied-in (x .file) (x .copied) (g .inv .owners) (m .staged .copy) k, m .inside)))
+                  (with-eight (w .table) (x .file) f′ l ∙ s .eight) recs (λ e. clash cc);
               inv =
                   inv-is (now-is tabs (λ y. refl) (with-marks (w .table) (x .file) f′ l marked-dirty) refl (sym none-shut))
                   (inv-finish (g .inv) (writer-staged (w .state .writer) e n) (flush-change m));

@@ -32,6 +32,7 @@ use Rattle.state.specs.declared.types.Done.the-variants.{Done as Fine, Refused}
 use Rattle.agree.specs.Good.{RecordOk, SearchIs, Good, Known}
 use Rattle.agree.specs.Rules.{ChainOf, stagedPage}
 use Rattle.agree.specs.View.{view, code, Mapped, asFile, recAt, stagedBy, writerBy, asWriter, nowOf}
+use Rattle.agree.proofs.Seen.{sees-on}
 use Rattle.agree.proofs.Hunts.{hunt-small, offering-ok, no-search-ok}
 use Rattle.agree.proofs.Maps.{mapped-same}
 use Rattle.agree.proofs.Pages.{clash}
@@ -103,23 +104,8 @@ module _ {D : Type 0} {N : ℕ} {w : World} {b : Base} {own : ℕ → Owner} (g 
         good =
             record {
               sees =
-                  record {
-                    size = s .size;
-                    big = s .big;
-                    small = s .small;
-                    bytes = s .bytes;
-                    mp = s .mp;
-                    mseq = s .mseq;
-                    pc = s .pc;
-                    cursor = s .cursor;
-                    flag = s .flag;
-                    pages = s .pages;
-                    search = sok;
-                    owners = s .owners;
-                    eight = s .eight;
-                    recs = s .recs;
-                    wr = s .wr;
-                  };
+                  sees-on s _ _ (refl, refl, refl) (refl, refl, refl, refl, refl, refl) (s .bytes) (s .cursor) sok (s .owners) (s .eight) (s .recs)
+                  (s .wr);
               inv = g .inv;
               rules = λ d. let r = g .rules d in record { now = r .now; base = r .base; wr = r .wr };
             };
@@ -186,23 +172,8 @@ module _ {D : Type 0} {N : ℕ} {w : World} {b : Base} {own : ℕ → Owner} (g 
         good =
             record {
               sees =
-                  record {
-                    size = s .size;
-                    big = s .big;
-                    small = s .small;
-                    bytes = s .bytes;
-                    mp = s .mp;
-                    mseq = s .mseq;
-                    pc = s .pc;
-                    cursor = s .cursor;
-                    flag = s .flag;
-                    pages = s .pages;
-                    search = no-search-ok;
-                    owners = mapped;
-                    eight = eight;
-                    recs = recs;
-                    wr = λ e. clash (cc);
-                  };
+                  sees-on s _ _ (refl, refl, refl) (refl, refl, refl, refl, refl, refl) (s .bytes) (s .cursor) no-search-ok mapped eight recs
+                  (λ e. clash cc);
               inv = inv-is (now-is (λ i. refl) (λ x. refl) (λ i. refl) refl (sym (writer-shut (w .state .writer) off))) v;
               rules = λ d. record { now = rules d; base = g .rules d .base; wr = λ e. clash (cc) };
             };
@@ -382,30 +353,15 @@ module _ {D : Type 0} {N : ℕ} {w : World} {b : Base} {own : ℕ → Owner} (g 
             good =
                 record {
                   sees =
-                      record {
-                        size = s .size;
-                        big = s .big;
-                        small = s .small;
-                        bytes = s .bytes;
-                        mp = s .mp;
-                        mseq = s .mseq;
-                        pc = s .pc;
-                        cursor = s .cursor;
-                        flag = s .flag;
-                        pages = s .pages;
-                        search = s .search;
-                        owners = s .owners;
-                        eight = s .eight;
-                        recs = s .recs;
-                        wr =
-                            λ on. record {
-                              boundary = named (isStaged x) refl (eqb (x .boundary) none);
-                              size = s .wr e .size;
-                              bytes = s .wr e .bytes;
-                              stands = s .wr e .stands;
-                              waits = λ z. let q = s .wr e .waits z in record { seq = q .seq; previous = q .previous; copied = q .copied; stored = q .stored; length = q .length };
-                            };
-                      };
+                      sees-on s _ _ (refl, refl, refl) (refl, refl, refl, refl, refl, refl) (s .bytes) (s .cursor) (s .search) (s .owners) (s .eight)
+                      (s .recs)
+                      (λ on. record {
+                        boundary = named (isStaged x) refl (eqb (x .boundary) none);
+                        size = s .wr e .size;
+                        bytes = s .wr e .bytes;
+                        stands = s .wr e .stands;
+                        waits = λ z. let q = s .wr e .waits z in record { seq = q .seq; previous = q .previous; copied = q .copied; stored = q .stored; length = q .length };
+                      });
                   inv = inv-is (now-is (λ i. refl) (λ y. refl) (λ i. refl) refl (sym (ended-writer x))) (g .inv);
                   rules = λ d. let r = g .rules d in record {
                     now = r .now;

@@ -4,6 +4,7 @@ pub mod Records
 pub mod Walking
 pub mod Ruling
 pub mod Hunts
+pub mod Seen
 pub mod Keeps
 pub mod Truncate
 pub mod Staged

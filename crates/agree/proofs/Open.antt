@@ -31,6 +31,7 @@ use Rattle.map.specs.declared.Alloc.the-variants.{Full}
 use Rattle.agree.specs.Good.{RecordOk, WriterIs, Good, Known}
 use Rattle.agree.specs.Rules.{Reaches, stagedPage, WriterRuled}
 use Rattle.agree.specs.View.{view, Mapped, asFile, recAt, asWriter, nowOf}
+use Rattle.agree.proofs.Seen.{sees-on}
 use Rattle.agree.proofs.Finish.{numbers}
 use Rattle.agree.proofs.Keeps.{Keeps, cond-by, checked-by, writer-ready, writer-staged, known, in-table, shut-now}
 use Rattle.agree.proofs.Maps.{alloc-free, mapped-give}
@@ -149,23 +150,8 @@ module _ {D : Type 0} {N : ℕ} {w : World} {b : Base} {own : ℕ → Owner} (g 
         good =
             record {
               sees =
-                  record {
-                    size = s .size;
-                    big = s .big;
-                    small = s .small;
-                    bytes = s .bytes;
-                    mp = s .mp;
-                    mseq = s .mseq;
-                    pc = s .pc;
-                    cursor = below;
-                    flag = s .flag;
-                    pages = s .pages;
-                    search = s .search;
-                    owners = mapped;
-                    eight = s .eight;
-                    recs = s .recs;
-                    wr = sound;
-                  };
+                  sees-on s _ _ (refl, refl, refl) (refl, refl, refl, refl, refl, refl) (s .bytes) below (s .search) mapped (s .eight) (s .recs)
+                  sound;
               inv = v;
               rules = λ d. record { now = g .rules d .now; base = g .rules d .base; wr = ruled d };
             };

@@ -27,6 +27,7 @@ use Rattle.state.specs.declared.types.FileRecord.{FileRecord}
 use Rattle.agree.specs.Good.{WriterIs, Good, Known}
 use Rattle.agree.specs.Rules.{Reaches, stagedPage, WriterRuled}
 use Rattle.agree.specs.View.{asFile, recAt, asWriter}
+use Rattle.agree.proofs.Seen.{sees-on}
 use Rattle.agree.proofs.Finish.{numbers}
 use Rattle.agree.proofs.Keeps.{writer-ready, writer-staged}
 use Rattle.agree.proofs.Maps.{alloc-free, mapped-give}
@@ -238,25 +239,11 @@ module _ {D : Type 0} {N : ℕ} {w : World} {b : Base} {own : ℕ → Owner} (g 
           good =
               record {
                 sees =
-                    record {
-                      size = ran-length (w .image) (flushStores x) ∙ s .size;
-                      big = s .big;
-                      small = s .small;
-                      bytes = flush-bytes m;
-                      mp = s .mp;
-                      mseq = s .mseq;
-                      pc = s .pc;
-                      cursor = beyond-in;
-                      flag = s .flag;
-                      pages = s .pages;
-                      search = s .search;
-                      owners = mapped-give (s .owners) p 1 writer (found .2) refl;
-                      eight = s .eight;
-                      recs = λ j. flush-record m (rec j) j (last-own (rec j) (g .inv .files j)) (s .recs j);
-                      wr =
-                          λ y. subst (λ (j : ℕ). WriterIs img′ (rec j) (filledBy (onPage (flushed x) p) l)) (sym (flushed-file x l p))
-                          (flushed-sound (w .image) img′ (rec (x .file)) (rec (x .file)) x l bs (s .wr e) p some (flush-header m));
-                    };
+                    sees-on s _ _ (refl, refl, refl) (ran-length (w .image) (flushStores x), refl, refl, refl, refl, refl) (flush-bytes m) beyond-in
+                    (s .search) (mapped-give (s .owners) p 1 writer (found .2) refl) (s .eight)
+                    (λ j. flush-record m (rec j) j (last-own (rec j) (g .inv .files j)) (s .recs j))
+                    (λ y. subst (λ (j : ℕ). WriterIs img′ (rec j) (filledBy (onPage (flushed x) p) l)) (sym (flushed-file x l p))
+                    (flushed-sound (w .image) img′ (rec (x .file)) (rec (x .file)) x l bs (s .wr e) p some (flush-header m)));
                 inv =
                     inv-is (now-is (λ j. refl) (λ z. refl) (λ j. refl) refl
                     (sym (flushed-is x p l e some
