@@ -1,13 +1,8 @@
 // Answers a script of calls, line by line: the replay protocol over the proved calls.
-mod answer;
-mod call;
 mod input;
-mod say;
-mod show;
-mod world;
 
+use answers::world::World;
 use input::Feed;
-use world::World;
 ghost use mathlib.Core.Path.{_≡_};
 ghost use lib.ListN.{length};
 
@@ -63,7 +58,7 @@ fn turn(
     let got = input::next_line(chunk, line, run.feed);
     let text = runs::part_of(line, 0, got.length);
     let world = run.world;
-    let done = answer::answer(image, map, text, bytes, out, run.at, world);
+    let done = answers::answer::answer(image, map, text, bytes, out, run.at, world);
     let world = done.world;
     let feed = got.feed;
     Run {
@@ -82,7 +77,7 @@ fn replay(
     bytes: &mut [u8],
     out: &mut [u8],
 ) {
-    let world = world::fresh(1, 0, 0);
+    let world = answers::world::fresh(1, 0, 0);
     let feed = input::start();
     let mut run = Run { world, feed, at: 0 };
     let mut turns = u64::MAX;

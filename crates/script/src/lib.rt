@@ -2,4 +2,6 @@
 // made here, and nothing is read or written but what is lent.
 pub mod bytes;
 pub mod command;
+pub mod say;
+pub mod show;
 pub mod text;

@@ -1,11 +1,11 @@
--- `replay::show::show_table` is safe and ends.
+-- `script::show::show_table` is safe and ends.
 -- Assumes nothing.
 use borrow.Author.Needs.{needs}
 use lib.ListN.{length}
 use mathlib.Core.Path.{_≡_}
 use Prim.Native.Nat.{_≤_, _-_}
-use Rattle.replay.proofs.show.show_table.Statement.{statement}
-use Rattle.replay.proofs.show.show_table.Tie as tie
+use Rattle.script.proofs.show.show_table.Statement.{statement}
+use Rattle.script.proofs.show.show_table.Tie as tie
 
 abbrev Inv-loop : tie.InvT-loop
 Inv-loop out₀ at table at₀ i₀ out at' i = (i ≤ 8) × (length out ≡ length out₀)

@@ -1,10 +1,10 @@
--- `replay::call::change_flags` meets its contract: the check says which case it is.
+-- `answers::call::change_flags` meets its contract: the check says which case it is.
 -- Assumes nothing.
 use borrow.Author.Needs.{needs}
 use mathlib.Core.Path.{sym, _∙_}
 use Rattle.transact.specs.Rename.{flags}
-use Rattle.replay.proofs.call.change_flags.Statement.{statement}
-use Rattle.replay.proofs.call.change_flags.Tie as tie
+use Rattle.answers.proofs.call.change_flags.Statement.{statement}
+use Rattle.answers.proofs.call.change_flags.Tie as tie
 
 returns : tie.Need-returns
 unfolding flags

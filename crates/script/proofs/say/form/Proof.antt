@@ -1,11 +1,11 @@
--- `replay::say::form` is safe and ends.
+-- `script::say::form` is safe and ends.
 -- Assumes nothing.
 use borrow.Author.Needs.{needs}
 use lib.ListN.{length}
 use mathlib.Core.Path.{_≡_}
 use Prim.Native.Nat.{_≤_, _-_}
-use Rattle.replay.proofs.say.form.Statement.{statement}
-use Rattle.replay.proofs.say.form.Tie as tie
+use Rattle.script.proofs.say.form.Statement.{statement}
+use Rattle.script.proofs.say.form.Tie as tie
 
 abbrev Inv-loop : tie.InvT-loop
 Inv-loop out₀ at form numbers place₀ i₀ out place i = (i ≤ 9) × (length out ≡ length out₀)

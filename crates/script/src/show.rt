@@ -1,7 +1,7 @@
 // What `show` prints.
+use crate::command::Show;
 use crate::say;
-use script::command::Show;
-use script::text;
+use crate::text;
 use state::types::FileRecord;
 use state::types::Search;
 use state::types::State;
@@ -143,7 +143,7 @@ fn show_sum(out: &mut [u8], at: usize, image: &[u8], p: usize) -> usize {
         at,
         b"page % %\n",
         p as u64,
-        script::bytes::adler32(bytes),
+        crate::bytes::adler32(bytes),
     )
 }
 
@@ -154,7 +154,7 @@ fn show_image(out: &mut [u8], at: usize, image: &[u8]) -> usize {
         at = show_sum(out, at, image, p);
         p += 1;
     }
-    say::one(out, at, b"image %\n", script::bytes::adler32(image))
+    say::one(out, at, b"image %\n", crate::bytes::adler32(image))
 }
 
 pub fn on_show(

@@ -1,11 +1,11 @@
--- `replay::show::show_image` is safe and ends.
+-- `script::show::show_image` is safe and ends.
 -- Assumes nothing.
 use borrow.Author.Needs.{needs}
 use lib.ListN.{length}
 use mathlib.Core.Path.{_≡_}
 use Prim.Native.Nat.{_≤_, _-_, _/_}
-use Rattle.replay.proofs.show.show_image.Statement.{statement}
-use Rattle.replay.proofs.show.show_image.Tie as tie
+use Rattle.script.proofs.show.show_image.Statement.{statement}
+use Rattle.script.proofs.show.show_image.Tie as tie
 
 abbrev Inv-loop : tie.InvT-loop
 Inv-loop out₀ at image at₀ p₀ t6 out at' p = (p ≤ length image / 256) × (length out ≡ length out₀)

@@ -1,5 +1,4 @@
 // The calls, each with its answer put into the output buffer.
-use crate::say;
 use crate::world::Turn;
 use crate::world::World;
 use reader::Located;
@@ -11,6 +10,7 @@ use script::command::Reading;
 use script::command::Searching;
 use script::command::Volume;
 use script::command::Writing;
+use script::say;
 use search::SearchOut;
 use state::types::Done;
 use state::types::Out;

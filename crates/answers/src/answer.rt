@@ -1,12 +1,12 @@
 // The answer to a command: the world that it leaves, with the answer's text in the output buffer.
 use crate::call;
-use crate::say;
-use crate::show;
 use crate::world;
 use crate::world::Turn;
 use crate::world::World;
 use script::command::Command;
 use script::command::Setup;
+use script::say;
+use script::show;
 ghost use Prim.Native.Nat.{_≤_};
 
 fn least(a: usize, b: usize) -> usize

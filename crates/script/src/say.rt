@@ -1,5 +1,5 @@
 // Answers, put behind each other into the output buffer: each function answers where its own ends.
-use script::text;
+use crate::text;
 use state::types::Done;
 use state::types::Refusal;
 
