@@ -2,8 +2,8 @@
  *
  * An image has 4 to 1,024 pages, its length is exactly 256 times their count, and the map has one byte for each page.
  * Both are the caller's and are lent to each call. Table and state go in by value and come back in the reply: store
- * them after every call, also a refused one. Of mv_search, mv_left and mv_right only the search comes back, for
- * nothing else changes: store it in state.search. A code of 0 is success, any other is a refusal's number (below).
+ * them after every call, also a refused one. A search (mv_search, mv_turn) changes the state in place instead.
+ * A code of 0 is success, any other is a refusal's number (below).
  * Link target/staticlib/libexport.a, which `rt staticlib export` writes.
  */
 #ifndef MUITALVEK_H

@@ -1,4 +1,4 @@
-//! Formats an image, writes two records, commits, mounts it again, reads and searches.
+//! Formats an image, writes four records, commits, mounts it again, reads and searches.
 
 use muitalvek::{Found, Refusal, Volume};
 
@@ -12,6 +12,10 @@ fn run() -> Result<(), Refusal> {
     v.record_end()?;
     v.write(b"at the antimeridian")?;
     v.record_end()?;
+    v.write(&[0; 224])?;
+    v.record_end()?;
+    v.write(b"its other half")?;
+    v.record_end()?;
     v.finish()?;
     v.flags(3, 1)?;
     v.commit()?;
@@ -24,13 +28,19 @@ fn run() -> Result<(), Refusal> {
     let mut out = [0; 30];
     let end = v.read(3, 0, &mut out)?;
     println!("read up to {end}: {}", String::from_utf8_lossy(&out));
-    match v.read(3, end, &mut out) {
+    match v.read(3, f.last_seq, &mut out) {
         Err(why) => println!("read at the end: refused {}: {why}", why.number()),
         Ok(_) => println!("read at the end: it should be refused"),
     }
-    match v.search(3)? {
-        Found::Offer(seq) => println!("search offers {seq}"),
-        Found::End(seq) => println!("search ends on {seq}"),
+    let mut found = v.search(3)?;
+    while let Found::Offer(seq) = found {
+        println!("search offers {seq}: right");
+        found = v.right()?;
+    }
+    println!("search: {found:?}");
+    match v.left() {
+        Err(why) => println!("left: refused {}: {why}", why.number()),
+        Ok(_) => println!("left: it should be refused"),
     }
     v.truncate(3, 11)?;
     v.commit()?;

@@ -1,4 +1,4 @@
-// All calls for C and Rust: image and map are lent, table and state go in and come back by value, of a search call only the search.
+// All calls for C and Rust: image and map are lent, table and state go in and come back by value; a search changes the state in place.
 use reader::Reader;
 use replies::LocateReply;
 use replies::Reply;
