@@ -15,12 +15,11 @@ use Rattle.chain.specs.declared.Place.{Place}
 use Rattle.chain.specs.declared.Kind.{Kind}
 use Rattle.chain.specs.declared.Kind.the-variants.{Stays, Reaches, Breaks}
 use Rattle.chain.specs.declared.BackStep.{BackStep}
-use Rattle.chain.specs.declared.Reached.{Reached}
 use Rattle.chain.specs.Links.{start, link}
 use Rattle.chain.specs.Steps.{Way, halt, lost, via, Rule, falls, backRule, Stepped, stays, reaches, breaks, entered, stepped, lowerOf, lower, step, Sought, at, damaged, Trace, stop, through, follow, along, go, trace, walk}
 use Rattle.chain.specs.Back.{placeOf, wide, toldBack, thinned, thin, walkBack, reachedBy}
 use Rattle.chain.proofs.Rules.{none-no-page, outside-no-page, is-page, back-falling}
-use Rattle.chain.proofs.Traces.{Goes, Began, began}
+use Rattle.chain.proofs.Traces.{stays-trace, breaks-trace, reaches-trace}
 use Rattle.chain.proofs.Steps.{lower-none, lower-outside, reached, back-stays, back-goes}
 
 -- ---- reading a lower page
@@ -100,6 +99,25 @@ module _ (count : ℕ) (read : ℕ → Read) (t : ℕ) (p : Place) where
           let g = goes-on h in
           ap (toldBack p) (sym (back-goes count read t (wide p) (g .0) (g .1) ∙ ap (reached (p .link)) (back-none x _ r o)))
 
+-- ---- a step back, as the code tells it: of the page that it reaches the code has the place
+
+abbrev pub Reached : Stepped → Place → Type 0
+Reached s x = (q : PagePointer) × (s ≡ reaches q) × (x ≡ placeOf q)
+
+abbrev pub BacksTo : Stepped → Kind → Place → Type 0
+BacksTo s Stays x = s ≡ stays
+BacksTo s Breaks x = s ≡ breaks
+BacksTo s Reaches x = Reached s x
+
+backs-of : (p : Place) (s : Stepped) → BacksTo s (toldBack p s .kind) (toldBack p s .place)
+backs-of p stays = refl
+backs-of p breaks = refl
+backs-of p (reaches q) = (q, refl, refl)
+
+pub backs-to : (p : Place) (x : BackStep) (k : Kind) (s : Stepped) → x ≡ toldBack p s → x .kind ≡ k → BacksTo s k (x .place)
+backs-to p x k s e o =
+    subst (λ (k : Kind). BacksTo s k (x .place)) o (subst (λ (y : BackStep). BacksTo s (y .kind) (y .place)) (sym e) (backs-of p s))
+
 -- ---- a page and its place step and walk alike
 
 module _ (count : ℕ) (read : ℕ → Read) (t : ℕ) where
@@ -126,7 +144,7 @@ module _ (count : ℕ) (read : ℕ → Read) (t : ℕ) where
       by lost rest = refl
       by (via j) rest = ap (λ (s : Stepped). thin (through j (follow s rest))) (entered-wide p j (read j))
 
-  -- ---- what a step of each kind says of the walk from a place
+  -- ---- a step as the code tells it, and what it says of the walk from a place
 
   module _ (p : Place) where
     abbrev pub SaysBack : Kind → Place → Type 0
@@ -134,35 +152,18 @@ module _ (count : ℕ) (read : ℕ → Read) (t : ℕ) where
     SaysBack Breaks q = walkBack count read t p .ends ≡ damaged
     SaysBack Reaches q = (walkBack count read t p ≡ through (q .«page_id») (walkBack count read t q)) × (q .seq < p .seq)
 
-    says-of : (s : Stepped) → Began (backRule count t) (back-falling count t) read (wide p) s → SaysBack (toldBack p s .kind) (toldBack p s .place)
+    says-of : (k : Kind) (x : Place) → BacksTo (step (backRule count t) read (wide p)) k x → SaysBack k x
     unfolding walkBack
-    says-of stays b = ap thin (b .1)
-    says-of breaks b = ap thinned b
-    says-of (reaches q) b = (ap thin (b .1) ∙ ap (through (q .«page_id»)) (sym (walk-wide q)), back-falling count t (wide p) (q .header) (b .0 .meets))
+    says-of Stays x g = ap thin (stays-trace (backRule count t) (back-falling count t) read (wide p) g)
+    says-of Breaks x g = ap thinned (breaks-trace (backRule count t) (back-falling count t) read (wide p) g)
+    says-of Reaches x g =
+        let w = reaches-trace (backRule count t) (back-falling count t) read (wide p) (g .0) (g .1) in
+        rw (g .2) (ap thin (w .0) ∙ ap (through (g .0 .«page_id»)) (sym (walk-wide (g .0))), w .1)
 
     pub says-back : (x : BackStep) (k : Kind) → x ≡ toldBack p (step (backRule count t) read (wide p)) → x .kind ≡ k → SaysBack k (x .place)
-    says-back x k e o =
-        subst (λ (k : Kind). SaysBack k (x .place)) o
-        (subst (λ (y : BackStep). SaysBack (y .kind) (y .place)) (sym e)
-        (says-of (step (backRule count t) read (wide p)) (began (backRule count t) (back-falling count t) read (wide p))))
+    says-back x k e o = says-of k (x .place) (backs-to p x k _ e o)
 
-  -- and of the step from a page
-  module _ (p : PagePointer) where
-    abbrev pub SaysPrev : Kind → Place → Type 0
-    SaysPrev Stays q = step (backRule count t) read p ≡ stays
-    SaysPrev Breaks q = step (backRule count t) read p ≡ breaks
-    SaysPrev Reaches q =
-        (h : DataHeader) × (read (q .«page_id») ≡ readable h) × (step (backRule count t) read p ≡ reaches (record { «page_id» = q .«page_id»; header = h }))
-
-    prev-of : (s : Stepped) → step (backRule count t) read p ≡ s → Began (backRule count t) (back-falling count t) read p s
-        → SaysPrev (toldBack (placeOf p) s .kind) (toldBack (placeOf p) s .place)
-    prev-of stays e b = e
-    prev-of breaks e b = e
-    prev-of (reaches q) e b = (q .header, b .0 .stands, e)
-
-    pub says-prev : (x : BackStep) (k : Kind) (q : Place) → q ≡ placeOf p → x ≡ toldBack q (step (backRule count t) read (wide q)) → x .kind ≡ k → SaysPrev k (x .place)
-    says-prev x k q l e o =
-        subst (λ (k : Kind). SaysPrev k (x .place)) o
-        (subst (λ (y : BackStep). SaysPrev (y .kind) (y .place))
-        (sym (e ∙ ap (λ (y : Place). toldBack y (step (backRule count t) read (wide y))) l ∙ ap (toldBack (placeOf p)) (step-wide p)))
-        (prev-of (step (backRule count t) read p) refl (began (backRule count t) (back-falling count t) read p)))
+  -- of a page: the step from its place is its step
+  pub backs-from : (p : PagePointer) (x : BackStep) (k : Kind) (y : Place) → y ≡ placeOf p → x ≡ toldBack y (step (backRule count t) read (wide y)) → x .kind ≡ k
+      → BacksTo (step (backRule count t) read p) k (x .place)
+  backs-from p x k y l e o = backs-to y x k _ (e ∙ ap (toldBack y) (ap (λ (z : Place). step (backRule count t) read (wide z)) l ∙ step-wide p)) o

@@ -27,7 +27,6 @@ use Rattle.chain.specs.Links.{start, link}
 use Rattle.chain.specs.Steps.{halt, lost, via, isPage, towards, Rule, seekRule, backRule, Stepped, stays, reaches, breaks, entered, stepped, lowerOf, lower, step, at, damaged, Trace, stop, through, trace}
 use Rattle.chain.specs.Seek.{told, foundBy, found}
 use Rattle.chain.proofs.Rules.{none-no-page, outside-no-page, is-page, Falling, seek-asks, back-asks, seek-here, seek-on, back-here, back-none, back-on}
-use Rattle.chain.proofs.Traces.{Goes, Began, began}
 
 -- ---- reading a lower page
 
@@ -136,24 +135,21 @@ module _ (count : ℕ) (read : ℕ → Read) (t : ℕ) (p : PagePointer) where
       pub seek-breaks : x .ok ≡ false → step (seekRule count t) read p ≡ breaks
       seek-breaks o = seek-goes h l ∙ ap (reached j) (given-none x (lower count read (start p) j) e o)
 
--- ---- a trace by its steps, as the code tells them
+-- ---- a step, as the code tells it
 
-module _ (r : Rule) (down : Falling r) (read : ℕ → Read) (p : PagePointer) where
-  -- what a step of each kind says of the trace from p
-  abbrev pub Says : Kind → PagePointer → Type 0
-  Says Stays q = (r .way p ≡ halt) × (trace r read p ≡ stop (at p))
-  Says Breaks q = trace r read p .ends ≡ damaged
-  Says Reaches q = Goes r read p q × (trace r read p ≡ through (q .«page_id») (trace r read q)) × (start q < start p)
+abbrev pub StepsTo : Stepped → Kind → PagePointer → Type 0
+StepsTo s Stays q = s ≡ stays
+StepsTo s Breaks q = s ≡ breaks
+StepsTo s Reaches q = s ≡ reaches q
 
-  says-of : (s : Stepped) → Began r down read p s → Says (told p s .kind) (told p s .page)
-  says-of stays b = b
-  says-of breaks b = b
-  says-of (reaches q) b = (b .0, b .1, down p (q .header) (b .0 .meets))
+steps-of : (p : PagePointer) (s : Stepped) → StepsTo s (told p s .kind) (told p s .page)
+steps-of p stays = refl
+steps-of p breaks = refl
+steps-of p (reaches q) = refl
 
-  pub says : (x : Step) (k : Kind) → x ≡ told p (step r read p) → x .kind ≡ k → Says k (x .page)
-  says x k e o =
-      subst (λ (k : Kind). Says k (x .page)) o
-      (subst (λ (y : Step). Says (y .kind) (y .page)) (sym e) (says-of (step r read p) (began r down read p)))
+pub steps-to : (p : PagePointer) (x : Step) (k : Kind) (s : Stepped) → x ≡ told p s → x .kind ≡ k → StepsTo s k (x .page)
+steps-to p x k s e o =
+    subst (λ (k : Kind). StepsTo s k (x .page)) o (subst (λ (y : Step). StepsTo s (y .kind) (y .page)) (sym e) (steps-of p s))
 
 -- ---- the answer of a seek by its steps
 

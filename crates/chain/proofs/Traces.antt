@@ -127,6 +127,10 @@ module _ (r : Rule) (down : Falling r) (read : ℕ → Read) where
   pub reaches-trace : (p q : PagePointer) → step r read p ≡ reaches q → (trace r read p ≡ through (q .«page_id») (trace r read q)) × (start q < start p)
   reaches-trace p q e = let b = subst (Began p) e (began p) in (b .1, down p (q .header) (b .0 .meets))
 
+  -- the page that a step reaches stands in the image
+  pub reaches-stands : (p q : PagePointer) → step r read p ≡ reaches q → read (q .«page_id») ≡ readable (q .header)
+  reaches-stands p q e = subst (Began p) e (began p) .0 .stands
+
   -- ---- by the pages that it passes
 
   -- from p by the rule over the pages l, where it ends

@@ -6,6 +6,7 @@ use native.Mathlib.Omega.{arith}
 use lib.ListN.{length}
 use Rattle.chain.specs.declared.PagePointer.{PagePointer}
 use Rattle.chain.specs.Steps.{Sought, damaged, at, Trace, stop, through}
+use Rattle.chain.specs.Back.{thinned, thin}
 use Rattle.inventory.specs.Inventory.{pagesBy}
 
 abbrev pub counted : ℕ → Trace → ℕ
@@ -24,3 +25,11 @@ counted-reaches n j t u e = rw e (by (u .ends))
     by : (s : Sought) → pagesBy (n + 1) (u .path) s ≡ pagesBy n (j ∷ u .path) s
     by damaged = refl
     by (at q) = omega arith
+
+-- as many where no more is told of the last page than a step back asks
+pub counted-thin : (n : ℕ) (t : Trace) → counted n (thin t) ≡ counted n t
+counted-thin n t = by (t .ends)
+  where
+    by : (s : Sought) → pagesBy n (t .path) (thinned s) ≡ pagesBy n (t .path) s
+    by damaged = refl
+    by (at q) = refl

@@ -37,10 +37,10 @@ fn no_line() -> FileLine
 fn count_pages(image: &[u8], count: usize, p: PagePointer, limit: u32) -> u64
     ensures { λ r. ⌜ r ≡ pagesFrom (now (image .entry)) count limit 1 p ⌝ }
 {
-    let mut here = p;
+    let mut here = chain::place_of(p);
     let mut n: u64 = 1;
     loop {
-        let s = chain::prev(image, count, here, limit);
+        let s = chain::back(image, count, here, limit);
         let kind = s.kind;
         match kind {
             Kind::Stays => {
@@ -50,7 +50,7 @@ fn count_pages(image: &[u8], count: usize, p: PagePointer, limit: u32) -> u64
                 return 0;
             }
             Kind::Reaches => {
-                here = s.page;
+                here = s.place;
                 n += 1;
             }
         }

@@ -9,34 +9,24 @@ use lib.ListN.{set}
 use Rattle.page.specs.Page.{Read}
 use Rattle.map.specs.Map.{free}
 use Rattle.chain.specs.declared.PagePointer.{PagePointer}
+use Rattle.chain.specs.declared.Kind.{Kind}
 use Rattle.chain.specs.declared.Kind.the-variants.{Stays, Reaches, Breaks}
-use Rattle.chain.specs.declared.Step.{Step}
+use Rattle.chain.specs.declared.BackStep.{BackStep}
+use Rattle.chain.specs.declared.Place.{Place}
 use Rattle.chain.specs.Steps.{backRule, Stepped, stays, reaches, breaks, step}
-use Rattle.chain.specs.Seek.{told}
+use Rattle.chain.specs.Back.{placeOf, wide, toldBack}
+use Rattle.chain.proofs.Places.{Reached, BacksTo, backs-to, step-wide}
 use Rattle.writer.specs.Finish.{Back, lost, pages, beside, backBy, backFrom, freed}
 use Rattle.writer.specs.Inner.{unbroken, freedBy}
 
--- ---- a step, as the code tells it
-
-module _ (p : PagePointer) (x : Step) where
-  pub told-reaches : (s : Stepped) → x ≡ told p s → x .kind ≡ Reaches → s ≡ reaches (x .page)
-  told-reaches stays e k = let z : _≡_ {A = ℕ} 0 1 = cc (ap (λ (y : Step). y .kind) e) in absurd (omega arith)
-  told-reaches breaks e k = let z : _≡_ {A = ℕ} 0 1 = cc (ap (λ (y : Step). y .kind) e) in absurd (omega arith)
-  told-reaches (reaches q) e k = ap reaches (sym (ap (λ (y : Step). y .page) e))
-
-  pub told-stays : (s : Stepped) → x ≡ told p s → x .kind ≡ Stays → s ≡ stays
-  told-stays stays e k = refl
-  told-stays breaks e k = let z : _≡_ {A = ℕ} 0 1 = cc (ap (λ (y : Step). y .kind) e) in absurd (omega arith)
-  told-stays (reaches q) e k = let z : _≡_ {A = ℕ} 0 1 = cc (ap (λ (y : Step). y .kind) e) in absurd (omega arith)
-
-  pub told-breaks : (s : Stepped) → x ≡ told p s → x .kind ≡ Breaks → s ≡ breaks
-  told-breaks breaks e k = refl
-  told-breaks stays e k = let z : _≡_ {A = ℕ} 0 1 = cc (ap (λ (y : Step). y .kind) e) in absurd (omega arith)
-  told-breaks (reaches q) e k = let z : _≡_ {A = ℕ} 0 1 = cc (ap (λ (y : Step). y .kind) e) in absurd (omega arith)
-
 module _ (count : ℕ) (read : ℕ → Read) where
-  abbrev from : ℕ → PagePointer → Back
-  from n p = backFrom count read n p
+  -- a page's place says as much as the page
+  pub back-wide : (n : ℕ) (p : PagePointer) (x : Place) → x ≡ placeOf p → backFrom count read n (wide x) ≡ backFrom count read n p
+  unfolding backFrom
+  back-wide zero p x e = refl
+  back-wide (suc zero) p x e = rw e
+  back-wide (suc (suc n)) p x e =
+      rw e (ap (λ (s : Stepped). beside (p .«page_id») (backBy s (λ q. backFrom count read (suc n) q))) (step-wide count read 0 p))
 
   -- one step of more than one page
   pub back-step : (n : ℕ) (p : PagePointer) → 1 < n
@@ -68,20 +58,27 @@ module _ (count : ℕ) (read : ℕ → Read) where
   beside-unbroken p (pages l) = refl
 
   -- one step more is unbroken where the rest is
-  pub unbroken-step : (n : ℕ) (p q : PagePointer) → 1 < n → step (backRule count 0) read p ≡ reaches q
+  unbroken-next : (n : ℕ) (p q : PagePointer) → 1 < n → step (backRule count 0) read p ≡ reaches q
       → unbroken (backFrom count read (n - 1) q) ≡ unbroken (backFrom count read n p)
-  unbroken-step n p q h e =
+  unbroken-next n p q h e =
       sym (ap unbroken (back-reaches n p q h e) ∙ beside-unbroken (p .«page_id») (backFrom count read (n - 1) q))
 
+  pub unbroken-step : (n : ℕ) (p : PagePointer) (x : Place) → 1 < n → Reached (step (backRule count 0) read p) x
+      → unbroken (backFrom count read (n - 1) (wide x)) ≡ unbroken (backFrom count read n p)
+  unbroken-step n p x h r = ap unbroken (back-wide (n - 1) (r .0) x (r .2)) ∙ unbroken-next n p (r .0) h (r .1)
+
   -- an unbroken walk's step reaches a page
-  pub unbroken-reaches : (n : ℕ) (p : PagePointer) (x : Step) → 1 < n → x ≡ told p (step (backRule count 0) read p)
-      → unbroken (backFrom count read n p) ≡ true → step (backRule count 0) read p ≡ reaches (x .page)
-  unbroken-reaches n p x h e u = by (step (backRule count 0) read p) refl e
+  pub unbroken-reaches : (n : ℕ) (p : Place) (x : BackStep) → 1 < n → x ≡ toldBack p (step (backRule count 0) read (wide p))
+      → unbroken (backFrom count read n (wide p)) ≡ true → Reached (step (backRule count 0) read (wide p)) (x .place)
+  unbroken-reaches n p x h e u = by (x .kind) (backs-to p x _ _ e refl)
     where
-      by : (s : Stepped) → step (backRule count 0) read p ≡ s → x ≡ told p s → s ≡ reaches (x .page)
-      by (reaches q) g k = ap reaches (sym (ap (λ (y : Step). y .page) k))
-      by stays g k = let z : _≡_ {A = Bool} false true = sym (ap unbroken (back-stays n p h g)) ∙ u in let y : _≡_ {A = ℕ} 0 1 = cc in absurd (omega arith)
-      by breaks g k = let z : _≡_ {A = Bool} false true = sym (ap unbroken (back-breaks n p h g)) ∙ u in let y : _≡_ {A = ℕ} 0 1 = cc in absurd (omega arith)
+      not : backFrom count read n (wide p) ≡ lost → ⊥
+      not g = let z : _≡_ {A = Bool} false true = sym (ap unbroken g) ∙ u in let y : _≡_ {A = ℕ} 0 1 = cc in omega arith
+
+      by : (k : Kind) → BacksTo (step (backRule count 0) read (wide p)) k (x .place) → Reached (step (backRule count 0) read (wide p)) (x .place)
+      by Reaches g = g
+      by Stays g = absurd (not (back-stays n (wide p) h g))
+      by Breaks g = absurd (not (back-breaks n (wide p) h g))
 
   -- ---- pages freed, the first of them already
   abbrev pub freedAfter : List ℕ → Back → List ℕ
@@ -107,13 +104,17 @@ module _ (count : ℕ) (read : ℕ → Read) where
   beside-rest m p (pages l) u = refl
 
   -- one page more is freed
-  pub freed-next : (n : ℕ) (m : List ℕ) (p q : PagePointer) → 1 < n → step (backRule count 0) read p ≡ reaches q → unbroken (backFrom count read n p) ≡ true
-      → freedAfter (set m (q .«page_id») free) (backFrom count read (n - 1) q) ≡ freedAfter m (backFrom count read n p)
-  freed-next n m p q h e u =
-      let k = unbroken-step n p q h e ∙ u in
-      freed-first (n - 1) m q (omega arith) k
+  pub freed-next : (n : ℕ) (m : List ℕ) (p : PagePointer) (x : Place) → 1 < n → Reached (step (backRule count 0) read p) x
+      → unbroken (backFrom count read n p) ≡ true
+      → freedAfter (set m (x .«page_id») free) (backFrom count read (n - 1) (wide x)) ≡ freedAfter m (backFrom count read n p)
+  freed-next n m p x h r u =
+      let q = r .0 in
+      let k = unbroken-next n p q h (r .1) ∙ u in
+      ap (λ (y : Place). freedAfter (set m (y .«page_id») free) (backFrom count read (n - 1) (wide y))) (r .2)
+      ∙ ap (freedAfter (set m (q .«page_id») free)) (back-wide (n - 1) q (placeOf q) refl)
+      ∙ freed-first (n - 1) m q (omega arith) k
       ∙ beside-rest m (p .«page_id») (backFrom count read (n - 1) q) k
-      ∙ sym (ap (freedAfter m) (back-reaches n p q h e))
+      ∙ sym (ap (freedAfter m) (back-reaches n p q h (r .1)))
 
   pub freed-last : (n : ℕ) (m : List ℕ) (p : PagePointer) → 1 ≤ n → n ≤ 1 → freedAfter m (backFrom count read n p) ≡ m
   unfolding backFrom

@@ -99,17 +99,17 @@ pub fn finish(image: &mut [u8], map: &mut [u8], table: Table, state: State) -> O
 fn is_unbroken(image: &[u8], count: usize, p: PagePointer, n: u32) -> bool
     ensures { λ r. ⌜ r ≡ unbroken (backFrom count (readAt (now (image .entry))) n p) ⌝ }
 {
-    let mut here = p;
+    let mut here = chain::place_of(p);
     let mut left = n;
     while 1 < left {
-        let next = chain::prev(image, count, here, 0);
+        let next = chain::back(image, count, here, 0);
         let kind = next.kind;
         match kind {
             Kind::Stays => return false,
             Kind::Breaks => return false,
             Kind::Reaches => {}
         }
-        here = next.page;
+        here = next.place;
         left -= 1;
     }
     true
@@ -123,12 +123,12 @@ fn free_back(image: &[u8], map: &mut [u8], count: usize, p: PagePointer, n: u32)
     if n == 0 {
         return;
     }
-    let mut here = p;
+    let mut here = chain::place_of(p);
     let mut left = n;
     map::free(map, here.page_id as usize);
     while 1 < left {
-        let next = chain::prev(image, count, here, 0);
-        here = next.page;
+        let next = chain::back(image, count, here, 0);
+        here = next.place;
         map::free(map, here.page_id as usize);
         left -= 1;
     }

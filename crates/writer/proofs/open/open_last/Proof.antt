@@ -5,11 +5,12 @@ use Rattle.state.specs.declared.types.Out.{Out}
 use Rattle.state.specs.World.{before, ended, after}
 use borrow.Author.Tests.{not-true, not-false}
 use Rattle.chain.specs.declared.PagePointer.{PagePointer}
+use Rattle.chain.specs.declared.Kind.the-variants.{Stays, Reaches, Breaks}
 use Rattle.map.specs.Map.{allocOf}
 use Rattle.chain.specs.Steps.{stays, breaks, reaches}
 use Rattle.chain.specs.Files.{lastOf}
 use Rattle.writer.specs.Open.{copiedTo}
-use Rattle.writer.proofs.Backs.{told-stays, told-breaks, told-reaches}
+use Rattle.chain.proofs.Steps.{steps-to}
 use Rattle.writer.proofs.Opens.{step-told, shaped-stands, last-kept, last-bad, last-room, last-odd, last-copied}
 use borrow.Author.Needs.{needs}
 use Rattle.writer.proofs.open.open_last.Statement.{statement}
@@ -53,7 +54,7 @@ returns-5 : tie.Need-returns-5
 returns-5 c =
     let a = c .before .before .before .before .before .before .before .before .before .before .before .before .before .before .before .before .args in
     let w = before (a .image .now) (a .map .now) (a .table) (a .state) in
-    let g = told-breaks (lastOf (a .f)) (c .before .before .before .prev .result) _ (step-told w (a .f) (c .before .before .before .before .last-of .result) (c .before .before .before .prev .result) (c .before .before .before .before .last-of .ensures) (c .before .before .before .prev .ensures)) (c .before .enum-told .given .1) in
+    let g = steps-to (lastOf (a .f)) (c .before .before .before .prev .result) Breaks _ (step-told w (a .f) (c .before .before .before .before .last-of .result) (c .before .before .before .prev .result) (c .before .before .before .before .last-of .ensures) (c .before .before .before .prev .ensures)) (c .before .enum-told .given .1) in
     ap (λ (r : Out). after r (a .image .now) (a .map .now)) (c .refuse4 .ensures)
     ∙ sym (ap (ended w) (last-copied w (a .file) (a .f) (c .before .before .before .before .before .before .before .before .before .if1 .left) (sym (c .before .before .before .before .before .before .before .too-few .ensures) ∙ c .before .before .before .before .before .before .if3 .left) (sym (c .before .before .before .before .before .before .before .before .before .before .before .in-shape .ensures) ∙ not-false _ (c .before .before .before .before .before .if4 .left)) breaks g))
 
@@ -61,7 +62,7 @@ returns-6 : tie.Need-returns-6
 returns-6 c =
     let a = c .before .before .before .before .before .before .before .before .before .before .before .before .before .before .before .before .before .before .before .before .args in
     let w = before (a .image .now) (a .map .now) (a .table) (a .state) in
-    let g = told-stays (lastOf (a .f)) (c .before .before .before .before .before .before .before .prev .result) _ (step-told w (a .f) (c .before .before .before .before .before .before .before .before .last-of .result) (c .before .before .before .before .before .before .before .prev .result) (c .before .before .before .before .before .before .before .before .last-of .ensures) (c .before .before .before .before .before .before .before .prev .ensures)) (c .before .before .before .before .before .enum-told2 .given .1) in
+    let g = steps-to (lastOf (a .f)) (c .before .before .before .before .before .before .before .prev .result) Stays _ (step-told w (a .f) (c .before .before .before .before .before .before .before .before .last-of .result) (c .before .before .before .before .before .before .before .prev .result) (c .before .before .before .before .before .before .before .before .last-of .ensures) (c .before .before .before .before .before .before .before .prev .ensures)) (c .before .before .before .before .before .enum-told2 .given .1) in
     c .before .before .copied-to .ensures
     ∙ ap (λ (q : PagePointer). ended w (copiedTo w (a .file) (a .f) q (allocOf (a .map .now) (a .state .«page_count») (a .state .cursor)))) (c .before .before .before .no-page .ensures)
     ∙ sym (ap (ended w) (last-copied w (a .file) (a .f) (c .before .before .before .before .before .before .before .before .before .before .before .before .before .if1 .left) (sym (c .before .before .before .before .before .before .before .before .before .before .before .too-few .ensures) ∙ c .before .before .before .before .before .before .before .before .before .before .if3 .left) (sym (c .before .before .before .before .before .before .before .before .before .before .before .before .before .before .before .in-shape .ensures) ∙ not-false _ (c .before .before .before .before .before .before .before .before .before .if4 .left)) stays g))
@@ -70,7 +71,7 @@ returns-7 : tie.Need-returns-7
 returns-7 c =
     let a = c .before .before .before .before .before .before .before .before .before .before .before .before .before .before .before .before .before .before .before .before .args in
     let w = before (a .image .now) (a .map .now) (a .table) (a .state) in
-    let g = told-reaches (lastOf (a .f)) (c .before .before .before .before .before .before .before .prev .result) _ (step-told w (a .f) (c .before .before .before .before .before .before .before .before .last-of .result) (c .before .before .before .before .before .before .before .prev .result) (c .before .before .before .before .before .before .before .before .last-of .ensures) (c .before .before .before .before .before .before .before .prev .ensures)) (c .before .before .before .before .before .enum-told3 .given .1) in
+    let g = steps-to (lastOf (a .f)) (c .before .before .before .before .before .before .before .prev .result) Reaches _ (step-told w (a .f) (c .before .before .before .before .before .before .before .before .last-of .result) (c .before .before .before .before .before .before .before .prev .result) (c .before .before .before .before .before .before .before .before .last-of .ensures) (c .before .before .before .before .before .before .before .prev .ensures)) (c .before .before .before .before .before .enum-told3 .given .1) in
     c .before .before .copied-to2 .ensures ∙ sym (ap (ended w) (last-copied w (a .file) (a .f) (c .before .before .before .before .before .before .before .before .before .before .before .before .before .if1 .left) (sym (c .before .before .before .before .before .before .before .before .before .before .before .too-few .ensures) ∙ c .before .before .before .before .before .before .before .before .before .before .if3 .left) (sym (c .before .before .before .before .before .before .before .before .before .before .before .before .before .before .before .in-shape .ensures) ∙ not-false _ (c .before .before .before .before .before .before .before .before .before .if4 .left)) (reaches (c .before .before .before .before .before .before .before .prev .result .page)) g))
 
 pub open-last-spec : {M : Type 1} → statement M
