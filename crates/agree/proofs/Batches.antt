@@ -1,9 +1,9 @@
 -- What the log of a metadata page says of each file after a batch, and what the table says. Assumes nothing.
 use Rattle.seq.specs.Ids as ids
 use Rattle.log.specs.Log.{adds, add, put, putIn, noFiles, sound}
-use Rattle.log.specs.Batch.{entryFor, chosenFrom, chosen, markedFrom, marked}
-use Rattle.log.proofs.Table.{Typed, Sounds}
-use Rattle.transact.specs.Commit.{filesOf, dirtyFiles, liveFiles}
+use Rattle.log.specs.Batch.{entryFor, chosenFrom, chosen, markedFrom}
+use Rattle.log.proofs.Table.{Typed}
+use Rattle.transact.specs.Commit.{filesOf}
 use Rattle.owners.specs.State.{none}
 use Prim.Native.Nat.{ℕ, zero, suc, _+_, _≤_, _<_}
 use mathlib.Core.Path.{_≡_, refl, sym, ap, ap₂, subst, _∙_}

@@ -2,28 +2,26 @@
 use Rattle.agree.proofs.Seen.{sees-on}
 use Rattle.agree.proofs.Keeps.{known}
 use Rattle.seq.specs.Ids as ids
-use borrow.Author.Tests.{not-true, not-false}
 use mathlib.Core.Bool.{and-eq-true-iff}
 use Rattle.state.specs.World.{World, Outcome, ended, refuse}
 use Rattle.map.specs.declared.Alloc.the-variants.{Page}
-use Rattle.map.specs.Map.{allocOf, beyond, released, used}
+use Rattle.map.specs.Map.{allocOf, released, used}
 use Rattle.map.proofs.Laws.{beyond-inside}
 use Rattle.page.specs.Store as stores
 use Rattle.log.specs.declared.LogEnd.{LogEnd}
 use Rattle.log.specs.declared.LogEnd.the-variants.{At, Damaged as NoLog}
-use Rattle.log.specs.Log.{adds, fresh, noFiles, logEnd, restErased, fits, ended as log-ended, logAt}
-use Rattle.log.specs.Batch.{chosen, batchStores, newMetaStores, marked, Fit}
+use Rattle.log.specs.Log.{adds, fresh, logEnd, restErased, fits}
+use Rattle.log.specs.Batch.{batchStores, newMetaStores, marked, Fit}
 use Rattle.log.proofs.Table.{Typed, chosen-fit, chosen-sounds, adds-good, append-replay, new-replay, end-reads, replay-typed}
 use Rattle.log.proofs.Pages.{batch-on, batch-meta, batch-bytes, new-on, new-bytes, new-meta}
 use Rattle.log.proofs.Runs.{length-chosen, chosen-few}
 use Rattle.transact.specs.Commit.{filesOf, dirtyFiles, liveFiles, appendedAt, moved, commitBatch, commit}
 use Rattle.transact.specs.Commit as calls
-use Rattle.owners.specs.State as st
 use Rattle.state.specs.declared.types.Refusal.the-variants.{SeqEnd, NoRoom, Damaged}
 use Prim.Native.Nat.{ℕ, _+_, _/_, _≤_, _<_}
 use mathlib.Core.Path.{_≡_, refl, sym, ap, ap₂, subst, _∙_}
 use mathlib.Core.Bool.{Bool, true, false, _&&_, not}
-use mathlib.Core.List.{List, [], _∷_, map}
+use mathlib.Core.List.{List, [], map}
 use native.Mathlib.Omega.{arith}
 use native.Mathlib.Decide.{ℕ-discrete}
 use lib.ListN.{length, getD, set}

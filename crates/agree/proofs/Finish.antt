@@ -7,7 +7,7 @@ use Rattle.state.specs.World.{World, ended}
 use Rattle.chain.specs.Steps.{reaches, step}
 use Rattle.chain.specs.Steps as steps
 use Rattle.writer.specs.Staging.{isStaged, stagedHeader, flushStores, previousOf}
-use Rattle.writer.specs.Finish.{marked, grown, finished, shut, finish, pages, lost, beside, backBy, backFrom, freed, discardedBy, discard}
+use Rattle.writer.specs.Finish.{marked, grown, finished, shut, finish, pages, beside, backBy, backFrom, freed, discardedBy, discard}
 use Rattle.writer.specs.Finish as calls
 use Rattle.owners.specs.State as st
 use Rattle.owners.specs.State.{on, done}

@@ -1,18 +1,16 @@
 -- Format of any image of bytes starts the invariant. Assumes nothing.
-use Rattle.seq.specs.Ids as ids
 use Rattle.state.specs.Values.{settled}
 use native.Mathlib.Nat.{mod-lt}
-use Rattle.state.specs.World.{World, Outcome, ended}
-use Rattle.map.specs.Map.{beyond, used, cleared}
+use Rattle.state.specs.World.{World, ended}
 use Rattle.map.proofs.Laws.{beyond-inside}
 use Rattle.page.specs.Store as stores
 use Rattle.page.specs.Store.{Store, erase}
 use Rattle.page.proofs.Laws.{every-append}
-use Rattle.log.specs.Log.{adds, fresh, noFiles, replayed, logAt}
+use Rattle.log.specs.Log.{fresh, noFiles, replayed}
 use Rattle.log.specs.Batch.{newMetaStores, batchStores}
 use Rattle.log.proofs.Table.{new-replay}
 use Rattle.log.proofs.Pages.{log-page}
-use Rattle.volume.specs.Format.{erasedIf, erasures, firstMeta, formatted, format}
+use Rattle.volume.specs.Format.{erasedIf, erasures, firstMeta, formatted}
 use Rattle.owners.specs.Store as st-store
 use Prim.Native.Nat.{ℕ, zero, suc, _*_, _/_, _%_, _≤_, _<_}
 use mathlib.Core.Path.{_≡_, refl, sym, ap, subst, _∙_}

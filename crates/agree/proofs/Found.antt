@@ -6,7 +6,7 @@ use Rattle.chain.specs.Steps.{at}
 use Rattle.map.specs.Map.{used, cleared}
 use Rattle.volume.specs.declared.Best.{Best}
 use Rattle.volume.specs.Scan.{scan}
-use Rattle.volume.specs.Mount.{Maybe, bad, good, bind, Loaded, LoadedAll, claim, claimed, recordOf, loadedBy, load, loadFrom, bestOk, mountRead, mountFrom}
+use Rattle.volume.specs.Mount.{Maybe, bad, good, bind, Loaded, LoadedAll, claimed, recordOf, loadedBy, load, loadFrom, bestOk, mountRead, mountFrom}
 use Rattle.owners.specs.Store as st
 use Rattle.owners.specs.State.{none}
 use Rattle.owners.specs.State as state

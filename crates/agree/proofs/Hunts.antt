@@ -3,12 +3,11 @@ use Rattle.seq.specs.Ids.{none}
 use Rattle.seq.specs.Seq.{below, span, limit}
 use native.Mathlib.Nat.{div-add-mod'}
 use mathlib.Core.Bool.{and-eq-true-iff}
-use Rattle.state.specs.declared.types.Search.{Search}
 use Rattle.chain.specs.Steps as steps
-use Rattle.search.specs.Hunt.{Hit, hit, tooLeft, wrong, greater, passedOver, foundOn, seenOn, seenBy, seekToPage, Sought, offered, ended, broken, tries, hitBy, reallySeek, hunt}
+use Rattle.search.specs.Hunt.{Hit, hit, tooLeft, wrong, greater, passedOver, foundOn, seenOn, seenBy, seekToPage, Sought, offered, ended, tries, hitBy, reallySeek, hunt}
 use Rattle.search.specs.declared.hunt.Offer.{Offer}
 use Rattle.search.specs.declared.search.Stand.{Stand}
-use Rattle.search.specs.Search.{offering, startOf, leftOf, rightOf}
+use Rattle.search.specs.Search.{offering}
 use Prim.Native.Nat.{ℕ, zero, suc, _+_, _-_, _≤_, _<_}
 use mathlib.Core.Path.{_≡_, refl, subst}
 use mathlib.Core.Bool.{Bool, true, false, cond, _&&_, _||_, not}

@@ -1,6 +1,6 @@
 -- While nothing is mounted every call but format and mount leaves the world as it was. Assumes nothing.
 use Rattle.state.specs.declared.types.Refusal.the-variants.{BadSize, NotMounted, Busy, BadFile}
-use Rattle.state.specs.World.{World, Outcome, ended, kept, refuse, checked}
+use Rattle.state.specs.World.{World, Outcome, ended, checked}
 use Rattle.writer.specs.Open as open-calls
 use Rattle.writer.specs.Write as write-calls
 use Rattle.writer.specs.Finish as finish-calls
@@ -21,7 +21,6 @@ use Rattle.state.specs.declared.types.Done.the-variants.{Done as Fine, Refused}
 use Rattle.agree.proofs.Pages.{clash}
 use Rattle.state.specs.Checks.{isMounted, wrongSize, checks}
 use Rattle.state.specs.Refusals.{onDone}
-use Rattle.chain.specs.Links.{Stand}
 use Rattle.chain.proofs.Written.{image}
 
 abbrev pub Stays : {A : Type 0} → World → Outcome A → Type 0

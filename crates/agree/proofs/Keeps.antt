@@ -4,14 +4,13 @@ use Rattle.seq.specs.Ids.{none}
 use Rattle.seq.specs.Seq as seq-specs
 use Rattle.state.specs.declared.types.Refusal.{Refusal}
 use Rattle.state.specs.declared.types.Writer as state-writer
-use Rattle.state.specs.World.{World, Outcome, ended, kept, refuse, checked}
+use Rattle.state.specs.World.{World, Outcome, ended, checked}
 use Rattle.transact.specs.Rename as transact-rename
 use Rattle.transact.specs.Rename.{swapped, changedTable, rename}
 use Rattle.transact.specs.Truncate.{dirtied}
 use Rattle.search.specs.declared.search.Stand.{Stand as Stood}
 use Rattle.search.specs.Search as search-calls
 use Rattle.search.specs.Hunt as hunting
-use Rattle.search.specs.declared.Answer.{Answer}
 use Rattle.writer.specs.Staging.{recordEnded, isStaged, stagedHeader, stagedLinks}
 use Rattle.writer.specs.Write.{recordEnd}
 use borrow.Author.Tests.{not-true}
@@ -19,7 +18,7 @@ use Rattle.state.specs.declared.types.Search.{Search}
 use Prim.Native.Nat.{ℕ, _≤_, _<_}
 use mathlib.Core.Path.{_≡_, refl, sym, ap, subst, _∙_}
 use mathlib.Core.Bool.{Bool, true, false, cond, _&&_}
-use mathlib.Core.List.{List, [], _∷_, map}
+use mathlib.Core.List.{List, [], map}
 use native.Mathlib.Omega.{arith}
 use native.Mathlib.Decide.{ℕ-discrete}
 use lib.ListN.{length}
@@ -49,7 +48,6 @@ use Rattle.state.specs.Refusals.{onDone}
 use Rattle.state.specs.Values.{fileAt, withFile, isEmpty, inShape, flagged, withFlags, noSearch, opened, withWriter, withSearch}
 use Rattle.state.specs.World.{result}
 use Rattle.state.proofs.Laws.{OpenSearch, search-says, Passed, checks-pass}
-use Rattle.chain.specs.Links.{Stand}
 use Rattle.chain.specs.Steps.{readAt, Sought}
 use Rattle.chain.proofs.Chains.{copied}
 use Rattle.chain.proofs.Seeks.{right}

@@ -1,12 +1,12 @@
 -- What mount is made of: the scan for the best metadata page, the replay's last pages, and the claim of a walk's pages. Assumes nothing.
 use Rattle.seq.specs.Ids as ids
 use mathlib.Core.Bool.{and-eq-true-iff}
-use Rattle.log.specs.Log.{adds, add, put, putIn, fresh, noFiles, sound}
+use Rattle.log.specs.Log.{adds, add, put, putIn, fresh, sound}
 use Rattle.log.proofs.Table.{Sounds, replay-good, replay-ended}
 use Rattle.map.specs.Map.{used}
 use Rattle.volume.specs.declared.Best.{Best}
 use Rattle.volume.specs.Scan.{bestOf, better, scan}
-use Rattle.volume.specs.Mount.{Maybe, bad, good, claim}
+use Rattle.volume.specs.Mount.{bad, good, claim}
 use Rattle.chain.specs.Walk.{Each, Distinct}
 use Rattle.owners.specs.Store as Mem
 use Prim.Native.Nat.{ℕ, zero, suc, _≤_, _<_}

@@ -1,6 +1,6 @@
 -- What calls do to the map is what they do to the owners. Assumes nothing.
 use Rattle.map.specs.declared.Alloc.the-variants.{Page}
-use Rattle.map.specs.Map.{beyond, released, allocOf, unheld, cleared, used}
+use Rattle.map.specs.Map.{released, allocOf, unheld, cleared, used}
 use Rattle.map.proofs.Laws as map-laws
 use Rattle.seq.specs.Ids.{none}
 use Rattle.writer.specs.Finish.{marked}

@@ -7,11 +7,11 @@ use Rattle.state.specs.World.{World}
 use Rattle.state.specs.Values.{settled}
 use Rattle.chain.specs.Files as files
 use Rattle.chain.specs.Steps.{at, damaged}
-use Rattle.log.proofs.Table.{Typed, replay-typed}
+use Rattle.log.proofs.Table.{replay-typed}
 use Rattle.map.specs.Map.{used, cleared}
 use Rattle.volume.specs.declared.Best.{Best}
 use Rattle.volume.specs.Scan.{scan}
-use Rattle.volume.specs.Mount.{Maybe, bad, good, bind, Loaded, LoadedAll, claim, claimed, recordOf, loadedBy, load, loadFrom, bestOk, mountRead, mountFrom}
+use Rattle.volume.specs.Mount.{Maybe, bad, good, bind, Loaded, LoadedAll, claimed, recordOf, loadedBy, load, loadFrom, bestOk, mountFrom}
 use Rattle.owners.specs.Store as st
 use Rattle.owners.specs.State as state
 use Prim.Native.Nat.{ℕ, zero, suc, _+_, _*_, _%_, _≤_, _<_}

@@ -4,10 +4,8 @@ use Rattle.seq.specs.Ids.{none}
 use Rattle.chain.specs.Links.{start, link, end, linksAfter}
 use Rattle.chain.specs.Links as links
 use Rattle.chain.specs.Steps.{step, reaches}
-use Rattle.state.specs.declared.types.Writer as state-writer
 use Rattle.owners.specs.Store as st
 use Rattle.chain.proofs.Chains.{alone, appended, replaced, copied, truncated}
-use Rattle.writer.specs.Staging.{stagedHeader, stagedLinks, previousOf}
 use Prim.Native.Nat.{ℕ, _≤_, _<_}
 use mathlib.Core.Path.{_≡_, refl, sym, ap, subst, _∙_}
 use mathlib.Core.Logic.{_⊎_, inl, inr}

@@ -1,16 +1,13 @@
 -- Writing keeps the invariant: each turn stages a page, stores a full one and stages the next, or goes on with the staged one.
 -- Assumes nothing.
 use Rattle.seq.specs.Ids.{none}
-use borrow.Author.Tests.{not-true, not-false}
 use Rattle.owners.proofs.Writing.{inside}
 use Rattle.state.specs.declared.types.Writer as state-writer
 use Rattle.state.specs.World.{World}
 use Rattle.map.specs.declared.Alloc.the-variants.{Page}
-use Rattle.map.specs.Map.{allocOf, beyond, freeCount, usedBy}
+use Rattle.map.specs.Map.{allocOf, beyond}
 use Rattle.map.proofs.Laws.{beyond-inside}
-use Rattle.writer.specs.Staging.{isStaged, stagedHeader, stagedLinks, previousOf, stagedBytes, flushStores, flushed, onPage, filledBy, space, pagesFor, tooFew}
-use Rattle.writer.specs.Write.{Writing, begun, writtenAs, writeIn, write, writeFrom}
-use Rattle.writer.specs.Write as turns
+use Rattle.writer.specs.Staging.{stagedHeader, stagedLinks, previousOf, flushStores, flushed, onPage, filledBy}
 use Rattle.owners.specs.Store as st
 use Rattle.chain.specs.Links.{linksAfter}
 use native.Mathlib.Numerals.{add-one}

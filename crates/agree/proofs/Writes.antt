@@ -2,14 +2,14 @@
 use Rattle.agree.proofs.Keeps.{known}
 use Rattle.seq.specs.Ids.{none}
 use Rattle.seq.specs.Seq as seq-specs
-use borrow.Author.Tests.{not-true, not-false}
+use borrow.Author.Tests.{not-false}
 use Rattle.state.specs.declared.types.Writer as state-writer
 use Rattle.state.specs.World.{World}
 use Rattle.map.specs.declared.Alloc.the-variants.{Page}
-use Rattle.map.specs.Map.{allocOf, beyond, freeCount, usedBy, used}
+use Rattle.map.specs.Map.{allocOf, beyond, freeCount, used}
 use Rattle.map.proofs.Laws.{alloc-some, alloc-count}
 use Rattle.map.proofs.Laws as map-laws
-use Rattle.writer.specs.Staging.{isStaged, flushStores, flushed, onPage, filledBy, space, pagesFor, tooFew}
+use Rattle.writer.specs.Staging.{flushStores, flushed, onPage, filledBy, space, pagesFor, tooFew}
 use Rattle.writer.specs.Write.{Writing, begun, writtenAs, writeIn, write, writeFrom, nextPage, flush, put, staged}
 use Rattle.writer.specs.Write as turns
 use Prim.Native.Nat.{ℕ, zero, suc, _+_, _-_, _/_, _≤_, _<_, min}

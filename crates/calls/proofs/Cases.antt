@@ -1,8 +1,7 @@
 -- Cascades of tests: an outcome's answer, and checks 1 to 4 as part of the order. Assumes nothing.
 use Prim.Native.Nat.{ℕ}
-use mathlib.Core.Path.{_≡_, refl, sym, ap, _∙_}
-use mathlib.Core.Bool.{Bool, true, false, cond, _&&_, _||_, not}
-use mathlib.Core.List.{List}
+use mathlib.Core.Path.{_≡_, refl, _∙_}
+use mathlib.Core.Bool.{Bool, true, false, cond, not}
 use lib.Dec.{ltb}
 use lib.ListN.{length}
 use Rattle.state.specs.declared.types.Refusal.{Refusal}
@@ -10,7 +9,7 @@ use Rattle.state.specs.declared.types.Refusal.the-variants.{BadSize, NotMounted
 use Rattle.state.specs.declared.types.Done.{Done}
 use Rattle.state.specs.declared.types.Done.the-variants.{Done as Fine, Refused}
 use Rattle.state.specs.Refusals.{onDone}
-use Rattle.state.specs.Checks.{isMounted, wrongSize, checks}
+use Rattle.state.specs.Checks.{isMounted, checks}
 use Rattle.state.specs.World.{World, checked}
 use Rattle.calls.specs.Order.{wrong}
 

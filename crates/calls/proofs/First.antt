@@ -1,10 +1,10 @@
 -- Demand 1 over all calls at once: the refusal is the first in document 01's order whose condition holds. Assumes nothing.
 use Prim.Native.Nat.{ℕ, _+_, _≤_, _<_}
-use mathlib.Core.Path.{_≡_, refl, sym, ap, _∙_}
+use mathlib.Core.Path.{_≡_, refl, ap, _∙_}
 use mathlib.Core.Bool.{Bool, true, false, cond, _&&_, _||_, not}
 use mathlib.Core.List.{List, []}
 use native.Mathlib.Omega.{arith}
-use borrow.Author.Tests.{ltb-false, eqb-false, le-ltb, lt-ltb}
+use borrow.Author.Tests.{ltb-false}
 use lib.Dec.{eqb, leb, ltb}
 use lib.ListN.{length, take, replicate, length-replicate}
 use Rattle.log.specs.declared.LogEnd.{LogEnd}
@@ -17,11 +17,10 @@ use Rattle.map.specs.Map.{allocOf, freeCount}
 use Rattle.map.proofs.Laws.{alloc-full}
 use Rattle.chain.specs.Steps.{readAt, walk, Sought, damaged, at, Trace, Stepped, stays, reaches, breaks}
 use Rattle.state.specs.declared.types.FileRecord.{FileRecord}
-use Rattle.state.specs.declared.types.Refusal.{Refusal}
-use Rattle.state.specs.declared.types.Refusal.the-variants.{BadSize, NotMounted, Busy, BadFile, Damaged, Eof, Short, NoRoom, SeqEnd, NoSearch, Gone, Range}
+use Rattle.state.specs.declared.types.Refusal.the-variants.{BadSize, NotMounted, Busy, BadFile, Damaged, Eof, Short, NoRoom, SeqEnd, NoSearch, Gone}
 use Rattle.state.specs.declared.types.Done.{Done}
 use Rattle.state.specs.declared.types.Done.the-variants.{Done as Fine, Refused}
-use Rattle.state.specs.Values.{fileAt, isEmpty, inShape, noSearch}
+use Rattle.state.specs.Values.{isEmpty, inShape, noSearch}
 use Rattle.state.specs.Checks.{sizes, isMounted}
 use Rattle.state.specs.World.{World, Outcome, kept, refuse, checked}
 use Rattle.volume.specs.Format as VF
@@ -52,8 +51,8 @@ use Rattle.search.specs.declared.search.Stand.{Stand}
 use Rattle.search.specs.declared.Answer.the-variants as A
 use Rattle.state.specs.declared.types.Search.{Search}
 use Rattle.calls.specs.Calls.{Call, format, mount, locate, read, skip, seek, search, left, right, open-writer, write, record-end, finish, discard, truncate, rename, flags, commit, locatedDone, skippedDone, soughtDone, answer}
-use Rattle.calls.specs.Order.{Conditions, first, conditions, wrong, plain, reading, onOpen, opening, committing, countOf, recordAt, misshapen, copies, mountBad, pathBad, readBad, openBad, stepBad, backBad, huntBad, logBad, moves, isFull, hunted, landBad}
-use Rattle.calls.proofs.Cases.{cond-map, fourth, answered}
+use Rattle.calls.specs.Order.{first, conditions, wrong, reading, onOpen, countOf, recordAt, misshapen, mountBad, pathBad, readBad, openBad, stepBad, backBad, huntBad, logBad, moves, isFull, hunted}
+use Rattle.calls.proofs.Cases.{fourth, answered}
 
 -- ---- tails of cascades
 

@@ -38,7 +38,6 @@ use Rattle.writer.specs.Finish as F
 use Rattle.transact.specs.Truncate as T
 use Rattle.transact.specs.Rename as N
 use Rattle.transact.specs.Commit as C
-use Rattle.search.specs.declared.Answer.{Answer}
 use Rattle.search.specs.Hunt as H
 use Rattle.search.specs.Search as Q
 use Rattle.search.specs.declared.search.Stand.{Stand}

@@ -25,7 +25,6 @@ use Rattle.state.specs.Checks.{sizes, isMounted, wrongSize}
 use Rattle.state.specs.World.{World}
 use Rattle.volume.specs.Scan.{scan}
 use Rattle.volume.specs.Mount.{Maybe, bad, good, mountFrom}
-use Rattle.reader.specs.declared.Reader.{Reader}
 use Rattle.reader.specs.Locate.{pathOf}
 use Rattle.reader.specs.Read as R
 use Rattle.writer.specs.Staging.{space, pagesFor, tooFew}

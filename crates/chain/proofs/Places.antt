@@ -2,23 +2,22 @@
 use mathlib.Core.Path.{_≡_, refl, sym, _∙_, ap, subst}
 use mathlib.Core.Bool.{Bool, true, false, cond, _||_}
 use mathlib.Core.Logic.{_⊎_, inl, inr}
-use Prim.Native.Nat.{ℕ, zero, suc, _≤_, _<_}
+use Prim.Native.Nat.{ℕ, _≤_, _<_}
 use borrow.Author.Tests.{le-ltb, lt-ltb, leb-true, leb-false, eqb-true, eqb-false}
 use lib.Dec.{leb, eqb}
 use Rattle.seq.specs.Ids.{none}
 use Rattle.page.specs.Page.{Read, unreadable, readable, givesBack}
 use Rattle.page.proofs.Headers.{back-read, back-none}
 use Rattle.page.specs.declared.BackRead.{BackRead}
-use Rattle.page.specs.declared.DataHeader.{DataHeader}
 use Rattle.chain.specs.declared.PagePointer.{PagePointer}
 use Rattle.chain.specs.declared.Place.{Place}
 use Rattle.chain.specs.declared.Kind.{Kind}
 use Rattle.chain.specs.declared.Kind.the-variants.{Stays, Reaches, Breaks}
 use Rattle.chain.specs.declared.BackStep.{BackStep}
 use Rattle.chain.specs.Links.{start, link}
-use Rattle.chain.specs.Steps.{Way, halt, lost, via, Rule, falls, backRule, Stepped, stays, reaches, breaks, entered, stepped, lowerOf, lower, step, Sought, at, damaged, Trace, stop, through, follow, along, go, trace, walk}
-use Rattle.chain.specs.Back.{placeOf, wide, toldBack, thinned, thin, walkBack, reachedBy}
-use Rattle.chain.proofs.Rules.{none-no-page, outside-no-page, is-page, back-falling}
+use Rattle.chain.specs.Steps.{Way, halt, lost, via, falls, backRule, Stepped, stays, reaches, breaks, entered, stepped, lowerOf, lower, step, at, damaged, Trace, stop, through, follow, along, go, trace, walk}
+use Rattle.chain.specs.Back.{placeOf, wide, toldBack, thinned, thin, walkBack}
+use Rattle.chain.proofs.Rules.{is-page, back-falling}
 use Rattle.chain.proofs.Traces.{stays-trace, breaks-trace, reaches-trace}
 use Rattle.chain.proofs.Steps.{lower-none, lower-outside, reached, back-stays, back-goes}
 

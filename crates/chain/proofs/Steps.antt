@@ -24,9 +24,9 @@ use Rattle.chain.specs.declared.Kind.the-variants.{Stays, Reaches, Break
 use Rattle.chain.specs.declared.Step.{Step}
 use Rattle.chain.specs.declared.Found.{Found}
 use Rattle.chain.specs.Links.{start, link}
-use Rattle.chain.specs.Steps.{halt, lost, via, isPage, towards, Rule, seekRule, backRule, Stepped, stays, reaches, breaks, entered, stepped, lowerOf, lower, step, at, damaged, Trace, stop, through, trace}
+use Rattle.chain.specs.Steps.{lost, via, isPage, towards, Rule, seekRule, backRule, Stepped, stays, reaches, breaks, entered, stepped, lowerOf, lower, step, at, damaged, Trace, stop, through, trace}
 use Rattle.chain.specs.Seek.{told, foundBy, found}
-use Rattle.chain.proofs.Rules.{none-no-page, outside-no-page, is-page, Falling, seek-asks, back-asks, seek-here, seek-on, back-here, back-none, back-on}
+use Rattle.chain.proofs.Rules.{none-no-page, outside-no-page, is-page, seek-asks, back-asks, seek-here, seek-on, back-here, back-none, back-on}
 
 -- ---- reading a lower page
 

@@ -1,16 +1,14 @@
 -- The statements speak of something: worlds made by a few calls, computed. Assumes nothing.
-use Prim.Native.Nat.{ℕ, _+_, _*_, _≤_, _<_}
 use mathlib.Core.Path.{_≡_, refl}
-use mathlib.Core.Bool.{Bool, true, false}
-use mathlib.Core.List.{List, [], _∷_, map}
-use mathlib.Core.Logic.{inl}
+use mathlib.Core.Bool.{false}
+use mathlib.Core.List.{[], _∷_, map}
 use native.Mathlib.Omega.{arith}
-use lib.ListN.{length, getD, replicate}
+use lib.ListN.{replicate}
 use Rattle.page.specs.Page.{Bytes}
 use Rattle.page.proofs.Laws.{bytes-replicate}
 use Rattle.state.specs.declared.types.FileRecord.{FileRecord}
 use Rattle.state.specs.declared.types.Done.the-variants.{Done as Fine}
-use Rattle.state.specs.Values.{emptyTable, unmounted, fileAt}
+use Rattle.state.specs.Values.{emptyTable, unmounted}
 use Rattle.state.specs.World.{World, result}
 use Rattle.volume.specs.Format.{format}
 use Rattle.transact.specs.Commit.{commit}

@@ -11,7 +11,7 @@ use Rattle.state.specs.declared.types.Done.the-variants.{Done as Fine, Refused}
 use Rattle.state.specs.declared.types.Out.{Out}
 use Rattle.state.specs.Refusals.{number}
 use Rattle.state.specs.Values.{withSearch}
-use Rattle.state.specs.World.{World, After, before}
+use Rattle.state.specs.World.{After, before}
 use Rattle.reader.specs.declared.Located.{Located}
 use Rattle.reader.specs.declared.Located.the-variants as L
 use Rattle.reader.specs.declared.Skipped.{Skipped}

@@ -1,5 +1,5 @@
 -- The ways out of the inventory of an image. Assumes nothing.
-use mathlib.Core.Path.{_≡_, refl, sym, ap, _∙_}
+use mathlib.Core.Path.{_≡_, sym, ap, _∙_}
 use mathlib.Core.List.{List}
 use Prim.Native.Nat.{ℕ, _/_, _≤_, _<_}
 use native.Mathlib.Omega.{arith}
@@ -16,9 +16,7 @@ use Rattle.state.specs.Refusals.{number}
 use Rattle.state.specs.Values.{emptyTable, unmounted}
 use Rattle.state.specs.World.{World, After, before, after, result}
 use Rattle.volume.specs.Mount.{mount}
-use Rattle.inventory.specs.declared.FileLine.{FileLine}
-use Rattle.inventory.specs.declared.Inventory.{Inventory}
-use Rattle.inventory.specs.Inventory.{linesOf, refusedBy, listedBy, mounted, inventoryOf}
+use Rattle.inventory.specs.Inventory.{linesOf, refusedBy, mounted, inventoryOf}
 
 -- too long an image
 pub list-long : (img : List ℕ) → 65536 < length img → refusedBy 1 ≡ inventoryOf img

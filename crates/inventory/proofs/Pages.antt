@@ -1,9 +1,8 @@
 -- The pages of a walk, counted step by step. Assumes nothing.
-use mathlib.Core.Path.{_≡_, refl, ap, _∙_}
-use mathlib.Core.List.{List, [], _∷_}
-use Prim.Native.Nat.{ℕ, _+_, suc}
+use mathlib.Core.Path.{_≡_, refl}
+use mathlib.Core.List.{_∷_}
+use Prim.Native.Nat.{ℕ, _+_}
 use native.Mathlib.Omega.{arith}
-use lib.ListN.{length}
 use Rattle.chain.specs.declared.PagePointer.{PagePointer}
 use Rattle.chain.specs.Steps.{Sought, damaged, at, Trace, stop, through}
 use Rattle.chain.specs.Back.{thinned, thin}

@@ -1,6 +1,6 @@
 -- What the listing program lists, by document 01, "Listing program"; DECISIONS 25. Assumes nothing: these are definitions.
 use Prim.Native.Nat.{ℕ, _+_, _/_}
-use mathlib.Core.Bool.{Bool, true, false, cond, not}
+use mathlib.Core.Bool.{true, false, cond}
 use mathlib.Core.List.{List, [], _∷_}
 use lib.Dec.{ltb}
 use lib.ListN.{length, replicate}
@@ -13,7 +13,7 @@ use Rattle.state.specs.declared.types.Done.{Done}
 use Rattle.state.specs.declared.types.Done.the-variants.{Done as Fine, Refused}
 use Rattle.state.specs.Refusals.{number}
 use Rattle.state.specs.Values.{fileAt, isEmpty, emptyTable, unmounted}
-use Rattle.state.specs.World.{World, Outcome, before}
+use Rattle.state.specs.World.{Outcome, before}
 use Rattle.volume.specs.Mount.{mount}
 use Rattle.inventory.specs.declared.FileLine.{FileLine}
 use Rattle.inventory.specs.declared.Inventory.{Inventory}

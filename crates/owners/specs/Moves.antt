@@ -1,11 +1,11 @@
 -- What calls do to store, owners and table. Assumes nothing: these are definitions.
-use Prim.Native.Nat.{ℕ, zero, suc, _+_, _≤_, _<_}
+use Prim.Native.Nat.{ℕ, _+_}
 use native.Mathlib.Omega.{arith}
 use native.Mathlib.Decide.{ℕ-discrete, decLe}
 use mathlib.Core.Path.{_≡_, refl}
 use mathlib.Core.Bool.{Bool, true, false}
 use mathlib.Core.List.{List, [], _∷_, _++_}
-use Rattle.owners.specs.Store.{Link, nil, to, Page, blank, dat, met, Store, pick, Owner, free, held, meta, writer, outside, file, Mem, here, there, File, gone, live, FileOk}
+use Rattle.owners.specs.Store.{Page, blank, dat, met, Store, pick, Owner, free, held, meta, writer, outside, file, Mem, here, there, File, gone, live, FileOk}
 use Rattle.owners.specs.State.{Base, Now, Writer, shut, firstOf, endOf}
 
 -- ---- one store at one page

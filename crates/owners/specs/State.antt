@@ -1,5 +1,5 @@
 -- What a mount of a store finds, the state between calls, and the invariant. Assumes nothing: these are definitions.
-use Prim.Native.Nat.{ℕ, zero, suc, _+_, _≤_, _<_}
+use Prim.Native.Nat.{ℕ, _+_, _≤_, _<_}
 use native.Mathlib.Decide.{ℕ-discrete, decLe}
 use mathlib.Core.Path.{_≡_}
 use mathlib.Core.Bool.{Bool, true, false, cond}
@@ -9,7 +9,7 @@ use lib.ListN.{length, getD}
 use Rattle.seq.specs.Ids as ids
 use Rattle.log.specs.declared.Files.{Files}
 use Rattle.log.specs.declared.Replay.{Replay}
-use Rattle.owners.specs.Store.{Link, nil, to, Page, blank, dat, met, Store, pick, Owner, free, held, meta, writer, outside, file, Mem, Walk, File, gone, live, FileAt, Len, limit}
+use Rattle.owners.specs.Store.{Link, nil, to, dat, met, Store, pick, Owner, free, held, meta, writer, outside, file, Mem, Walk, File, gone, live, FileAt, Len, limit}
 
 -- 65535 is none
 unfoldable pub linkOf : ℕ → Link

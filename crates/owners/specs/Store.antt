@@ -1,7 +1,6 @@
 -- The store of pages: what mount can see of an image, page by page, and whose each page is. A device of the proofs: no reader has to
 -- believe it. Assumes nothing: these are definitions.
-use Prim.Native.Nat.{ℕ, zero, suc, _+_, _≤_, _<_}
-use native.Mathlib.Decide.{ℕ-discrete}
+use Prim.Native.Nat.{ℕ, _+_, _≤_, _<_}
 use mathlib.Core.Path.{_≡_}
 use mathlib.Core.List.{List, [], _∷_}
 use Rattle.log.specs.declared.Replay.{Replay}

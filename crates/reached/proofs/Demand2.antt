@@ -1,12 +1,11 @@
 -- Where commit succeeds, mount of the image that it leaves succeeds and gives the same eight files. Assumes nothing.
-use Rattle.seq.specs.Ids.{none}
 use Rattle.seq.specs.Seed.{seedAfter}
 use Rattle.state.specs.World.{World, Outcome, ended, result}
 use Rattle.state.specs.Values.{settled}
 use Rattle.chain.specs.Files.{lastOf}
-use Rattle.chain.specs.Steps.{at, damaged}
+use Rattle.chain.specs.Steps.{at}
 use Rattle.volume.specs.Mount as volume-mount
-use Rattle.volume.specs.Mount.{Maybe, bad, good, LoadedAll}
+use Rattle.volume.specs.Mount.{good}
 use Rattle.volume.specs.Scan.{scan}
 use Rattle.transact.specs.Commit.{commit}
 use Rattle.owners.specs.Store as st

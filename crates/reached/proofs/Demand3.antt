@@ -3,17 +3,15 @@ use Rattle.seq.specs.Ids.{none}
 use Rattle.state.specs.World.{World}
 use Rattle.chain.specs.Files.{lastOf}
 use Rattle.chain.specs.Links.{start, end}
-use Rattle.chain.specs.Links as links
 use Rattle.chain.specs.Steps.{at}
 use Rattle.chain.specs.Seek.{Right, most}
 use Rattle.chain.proofs.Seeks.{right}
 use Rattle.chain.proofs.Seeks as seeks
 use Rattle.runs.specs.Runs.{part}
 use Rattle.reader.specs.declared.Located.the-variants.{At, Refused as NotLocated}
-use Rattle.reader.specs.declared.Located.{Located}
 use Rattle.reader.specs.declared.Reader.{Reader}
 use Rattle.reader.specs.Locate.{pathOf, locatedBy, locateIn, locate}
-use Rattle.reader.specs.Read.{Opened, shown, openedAt, openedBy, openAt, some, before, here, bytesHere, bytesBy, bytesFrom, AfterRead, readBy, readKept, readIn, moved, read}
+use Rattle.reader.specs.Read.{Opened, shown, openedAt, openedBy, openAt, some, before, here, bytesHere, bytesBy, bytesFrom, readBy, readKept, readIn, moved, read}
 use Rattle.reader.specs.Read as reading
 use Rattle.owners.specs.Store as st
 use Prim.Native.Nat.{ℕ, zero, suc, _+_, _-_, _≤_, _<_}
@@ -44,7 +42,7 @@ use Rattle.agree.proofs.Ruling.{cut, cut-pages, record-chain}
 use Rattle.agree.proofs.Walking.{file-walk}
 use Rattle.owners.specs.Moves.{mem-nil, mem-tail}
 use Rattle.owners.specs.State.{Base}
-use Rattle.owners.specs.Store.{live, Owner, Mem, there}
+use Rattle.owners.specs.Store.{Owner, Mem, there}
 use Rattle.owners.proofs.Commit.{idle}
 use Rattle.page.specs.Page.{pageOf, Read, readable, gives, holds, Bytes}
 use Rattle.page.proofs.Headers.{header-bounds, header-there, holds-in, holds-bounds}

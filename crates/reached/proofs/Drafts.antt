@@ -1,14 +1,10 @@
 -- The bytes of an open writer: a flush stores them, and a turn of a write adds to them. Assumes nothing.
-use Rattle.seq.specs.Ids.{none}
-use Rattle.chain.specs.Links.{start, end, link}
-use Rattle.chain.specs.Links as links
+use Rattle.chain.specs.Links.{start, link}
 use Rattle.chain.specs.Steps.{at}
-use Rattle.runs.specs.Runs.{part, placed, splice}
+use Rattle.runs.specs.Runs.{placed, splice}
 use Rattle.runs.proofs.Laws.{placed-in}
 use Rattle.state.specs.declared.types.Writer as state-writer
 use Rattle.writer.specs.Staging.{stagedHeader, stagedBytes, flushStores, previousOf, filledBy, onPage, flushed}
-use Rattle.owners.specs.Store as st
-use Rattle.owners.specs.Store.{writer}
 use Prim.Native.Nat.{ℕ, _+_, _-_, _≤_, _<_}
 use mathlib.Core.Path.{_≡_, refl, sym, ap, ap₂, subst, _∙_}
 use mathlib.Core.Bool.{true, cond}

@@ -1,13 +1,13 @@
 -- In every world that calls reach from a format the invariant holds with the link rule, so that it counts as mounted. Assumes nothing.
-use Rattle.state.specs.declared.types.Done.the-variants.{Done as Fine, Refused}
-use Rattle.state.specs.World.{World, Outcome, ended, result, refuse}
+use Rattle.state.specs.declared.types.Done.the-variants.{Done as Fine}
+use Rattle.state.specs.World.{World, Outcome, ended, result}
 use Rattle.seq.specs.Seed.{seedAfter}
 use Rattle.volume.specs.Format as volume-format
 use Rattle.volume.specs.Mount as volume-mount
 use Rattle.volume.specs.Mount.{Maybe, bad, good, LoadedAll}
 use Rattle.volume.specs.Scan.{scan}
 use Rattle.calls.specs.Calls as calls
-use Rattle.calls.specs.Calls.{Call, step, Reach, starts, goes, FromFormat}
+use Rattle.calls.specs.Calls.{Call, step, starts, goes, FromFormat}
 use Prim.Native.Nat.{ℕ, _*_, _≤_}
 use mathlib.Core.Path.{_≡_, refl, sym, subst}
 use mathlib.Core.Bool.{true}

@@ -4,8 +4,6 @@ use Rattle.seq.specs.Seq as seq-specs
 use borrow.Author.Tests.{not-true, not-false}
 use Rattle.state.specs.World.{World, Outcome, ended}
 use Rattle.state.specs.declared.types.Writer as state-writer
-use Rattle.chain.specs.Files.{lastOf}
-use Rattle.map.specs.Map.{beyond}
 use Rattle.owners.specs.Store as st
 use Rattle.owners.specs.Store.{writer}
 use Rattle.writer.specs.Staging.{isStaged, stagedHeader, flushStores, filledBy, onPage, flushed, space, pagesFor, tooFew}

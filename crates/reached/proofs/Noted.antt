@@ -1,20 +1,14 @@
 -- The ledger tells the bytes after flags, rename, truncate, commit, mount and format. Assumes nothing.
 use Rattle.seq.specs.Ids.{none}
-use Rattle.seq.specs.Seed.{seedAfter}
-use Rattle.state.specs.World.{World, Outcome, ended, result}
+use Rattle.state.specs.World.{World, ended, result}
 use Rattle.chain.specs.Files.{lastOf}
-use Rattle.chain.specs.Steps.{at, damaged}
 use Rattle.owners.specs.Store as st
 use Rattle.transact.specs.Rename as transact-rename
 use Rattle.transact.specs.Rename.{changedTable, rename, swapped}
-use Rattle.transact.specs.Truncate.{dirtied, advanced, emptied, newFirst, cut, unreached, heldAll, changedFile, truncatedBy, truncateIn, truncate}
+use Rattle.transact.specs.Truncate.{dirtied}
 use Rattle.transact.specs.Commit.{commit}
-use Rattle.volume.specs.Format as volume-format
-use Rattle.volume.specs.Mount as volume-mount
-use Rattle.volume.specs.Mount.{Maybe, bad, good, LoadedAll}
-use Rattle.volume.specs.Scan.{scan}
-use Rattle.reached.specs.Ledger.{Ledger, nothing, put-at, with-files}
-use Rattle.reached.specs.Ledger as ledger
+use Rattle.volume.specs.Mount.{good}
+use Rattle.reached.specs.Ledger.{Ledger, put-at, with-files}
 use Prim.Native.Nat.{ℕ, _≤_, _<_}
 use mathlib.Core.Path.{_≡_, refl, sym, ap, subst, _∙_}
 use mathlib.Core.Bool.{Bool, true, false, cond}

@@ -1,8 +1,7 @@
 -- The ledger tells the bytes after a writer is opened. Assumes nothing.
 use Rattle.seq.specs.Ids.{none}
 use Rattle.seq.specs.Seq as seq-specs
-use Rattle.state.specs.World.{World, Outcome, ended}
-use Rattle.state.specs.declared.types.Writer as state-writer
+use Rattle.state.specs.World.{World, Outcome}
 use Rattle.chain.specs.Files as files
 use Rattle.chain.specs.Links.{start}
 use Rattle.chain.specs.Steps.{at, stays, reaches, breaks, step}
@@ -11,7 +10,7 @@ use Rattle.runs.specs.Runs.{part, placed}
 use Rattle.map.specs.declared.Alloc.{Alloc}
 use Rattle.map.specs.declared.Alloc.the-variants.{Page, Full}
 use Rattle.map.specs.Map.{allocOf}
-use Rattle.writer.specs.Staging.{tooFew, previousOf}
+use Rattle.writer.specs.Staging.{tooFew}
 use Rattle.writer.specs.Open.{readyWriter, noPage, copyWriter, readied, copiedTo, copied, stepFrom, openLast, openIn, openWriter}
 use Prim.Native.Nat.{ℕ, _+_, _-_, _≤_, _<_}
 use mathlib.Core.Path.{_≡_, refl, sym, ap, subst, _∙_}

@@ -4,7 +4,6 @@ use Rattle.state.specs.World.{World}
 use Rattle.chain.specs.Files.{lastOf}
 use Rattle.writer.specs.Staging.{previousOf}
 use Rattle.writer.specs.Finish.{pages, backFrom}
-use Rattle.writer.specs.Finish as calls
 use Rattle.owners.specs.Store as st
 use Rattle.owners.specs.Store.{Owner}
 use Rattle.reached.specs.Asked.{free, held, meta, file, writer}

@@ -1,14 +1,13 @@
 -- Every world that calls reach is sound: its image is of bytes, and while mounted the invariant holds. Assumes nothing.
-use Rattle.state.specs.declared.types.Refusal.the-variants.{BadSize}
-use Rattle.state.specs.declared.types.Done.the-variants.{Done as Fine, Refused}
-use Rattle.state.specs.World.{World, Outcome, ended, result, refuse}
+use Rattle.state.specs.declared.types.Done.the-variants.{Done as Fine}
+use Rattle.state.specs.World.{World, Outcome, ended, result}
 use Rattle.seq.specs.Seed.{seedAfter}
 use Rattle.volume.specs.Format as volume-format
 use Rattle.volume.specs.Mount as volume-mount
 use Rattle.volume.specs.Mount.{Maybe, bad, good, LoadedAll}
 use Rattle.volume.specs.Scan.{scan}
 use Rattle.calls.specs.Calls as calls
-use Rattle.calls.specs.Calls.{Call, step, Reach, starts, goes, FromFormat, FromEither}
+use Rattle.calls.specs.Calls.{Call, step, starts, goes, FromEither}
 use Prim.Native.Nat.{ℕ}
 use mathlib.Core.Path.{_≡_, refl, sym, subst}
 use mathlib.Core.Bool.{Bool, true, false}

@@ -1,11 +1,9 @@
 -- A writer's session: a write adds its bytes to the writer's, and a finish makes them the file's. Assumes nothing.
 use Rattle.seq.specs.Ids.{none}
-use Rattle.state.specs.World.{World, ended}
-use Rattle.state.specs.declared.types.Writer as state-writer
-use Rattle.chain.specs.Files.{lastOf}
+use Rattle.state.specs.World.{World}
 use Rattle.map.specs.Map.{beyond}
 use Rattle.writer.specs.Staging.{flushStores, filledBy, onPage, flushed, space}
-use Rattle.writer.specs.Write.{Writing, begun, writtenAs, writeFrom, put}
+use Rattle.writer.specs.Write.{Writing, writeFrom, put}
 use Rattle.writer.specs.Write as turns
 use Prim.Native.Nat.{ℕ, zero, suc, _≤_}
 use mathlib.Core.Path.{_≡_, refl, sym, ap, subst, _∙_}

@@ -1,9 +1,7 @@
 -- The ledger tells the bytes of files, of what is committed and of the open writer: what keeps it so. Assumes nothing.
-use Rattle.seq.specs.Ids.{none}
 use Rattle.state.specs.World.{World, Outcome, ended}
 use Rattle.state.specs.declared.types.Writer as state-writer
 use Rattle.chain.specs.Files.{lastOf}
-use Rattle.chain.specs.Steps.{at}
 use Rattle.owners.specs.Store as st
 use Rattle.writer.specs.Staging.{recordEnded, previousOf}
 use Rattle.writer.specs.Write.{recordEnd}
@@ -12,8 +10,6 @@ use Rattle.search.specs.Search as search-calls
 use Rattle.search.specs.declared.search.Stand as search-stand
 use Rattle.search.specs.Hunt as hunting
 use Rattle.state.specs.declared.types.Search.{Search}
-use Rattle.transact.specs.Rename as transact-rename
-use Rattle.transact.specs.Rename.{changedTable}
 use Prim.Native.Nat.{ℕ, _≤_, _<_}
 use mathlib.Core.Path.{_≡_, refl, sym, ap, subst, _∙_}
 use mathlib.Core.Bool.{true, false}

@@ -2,10 +2,10 @@
 use Rattle.seq.specs.Ids.{none}
 use Rattle.seq.specs.Seed.{seedAfter}
 use Rattle.state.specs.Values.{settled}
-use Rattle.state.specs.World.{World, Outcome, ended, result, kept}
+use Rattle.state.specs.World.{World, Outcome, ended, result}
 use Rattle.chain.specs.Files.{lastOf}
 use Rattle.chain.specs.Steps.{at, damaged}
-use Rattle.transact.specs.Truncate.{dirtied, advanced, newFirst, cut, unreached, heldAll, changedFile, truncatedBy, truncateIn, truncate}
+use Rattle.transact.specs.Truncate.{dirtied, advanced, newFirst, cut, changedFile, truncatedBy, truncateIn, truncate}
 use Rattle.transact.specs.Truncate as truncating
 use Rattle.volume.specs.Format as volume-format
 use Rattle.volume.specs.Mount as volume-mount
@@ -18,13 +18,13 @@ use Rattle.transact.specs.Rename as rename-calls
 use Rattle.transact.specs.Commit as commit-calls
 use Rattle.search.specs.Search as search-calls
 use Rattle.calls.specs.Calls as calls
-use Rattle.calls.specs.Calls.{Call, step, Formatted}
+use Rattle.calls.specs.Calls.{Call, step}
 use Rattle.reached.specs.Ledger.{Ledger, nothing, put-at, with-files, note, Written, starts, goes}
 use Rattle.reached.specs.Ledger as ledger
 use Prim.Native.Nat.{ℕ, _*_, _≤_, _<_}
 use mathlib.Core.Path.{_≡_, refl, sym, ap, subst, _∙_, fun-ext}
 use mathlib.Core.Bool.{Bool, true, false, cond}
-use mathlib.Core.List.{List, [], _∷_, map}
+use mathlib.Core.List.{List, [], map}
 use native.Mathlib.Omega.{arith}
 use native.Mathlib.Decide.{ℕ-discrete}
 use lib.ListN.{length, getD}

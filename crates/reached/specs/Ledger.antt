@@ -1,7 +1,6 @@
 -- "The bytes last written there": what was written, call by call. A file's bytes stand in a list by their numbers, from 0 on; those below
 -- first_seq stay in it. Only a write adds bytes, and only where it succeeds. Assumes nothing: these are definitions.
-use Prim.Native.Nat.{ℕ, _-_, _<_}
-use mathlib.Core.Path.{_≡_}
+use Prim.Native.Nat.{ℕ, _-_}
 use mathlib.Core.Bool.{cond}
 use mathlib.Core.List.{List, [], _++_}
 use lib.Dec.{eqb, leb}
@@ -13,7 +12,7 @@ use Rattle.writer.specs.Staging.{previousOf}
 use Rattle.reached.specs.Asked.{Byte, byte, byteBy}
 use Rattle.state.specs.Refusals.{onDone}
 use Rattle.state.specs.Values.{fileAt}
-use Rattle.state.specs.World.{World, result}
+use Rattle.state.specs.World.{World}
 use Rattle.volume.specs.Format as volume-format
 use Rattle.volume.specs.Mount as volume-mount
 use Rattle.writer.specs.Open.{openWriter}

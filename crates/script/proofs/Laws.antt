@@ -3,17 +3,16 @@
 use Prim.Native.Nat.{ℕ, zero, suc, _+_, _-_, _*_, _/_, _%_, _≤_, _<_}
 use mathlib.Core.Path.{_≡_, refl, sym, ap, _∙_}
 use mathlib.Core.List.{List, [], _∷_, _++_, append-nil, append-assoc}
-use mathlib.Core.Bool.{Bool, true, false, cond, _&&_}
+use mathlib.Core.Bool.{true, false, cond}
 use native.Mathlib.Nat.{add-zero, le-of-suc-le-suc, not-suc-le-zero}
 use native.Mathlib.Numerals.{add-one}
 use native.Mathlib.Omega.{arith}
 use lib.ListN.{length, take, drop, getD, set, take-append-drop, length-drop, length-set, drop-of-length-le}
 use lib.Seq.{take-suc, drop-cons, take-suc-set, drop-set-lt, getD-drop}
-use lib.Dec.{ltb, leb, eqb}
+use lib.Dec.{ltb, eqb}
 use borrow.Author.Tests.{ltb-true}
 use Rattle.runs.specs.Runs.{splice}
 use Rattle.runs.proofs.Laws.{cond-same, cond-by}
-use Rattle.script.specs.declared.bytes.Number.{Number}
 use Rattle.script.specs.declared.bytes.Number.the-variants.{Is, Bad}
 use Rattle.script.specs.Text.{until, same, hexDigit, hexDigits}
 use Rattle.script.specs.Bytes.{more, digits, hexValue, allHex, bytesOf, nextByte, ramp, adler}

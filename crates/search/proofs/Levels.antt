@@ -9,7 +9,7 @@ use borrow.Author.Tests.{ltb-true, leb-true, leb-false, eqb-false, le-leb, lt-le
 use lib.Dec.{leb, ltb, eqb}
 use lib.ListN.{getD}
 use Rattle.seq.specs.Ids.{none}
-use Rattle.seq.specs.Seq.{below, span, level, number, reply, jumpSays}
+use Rattle.seq.specs.Seq.{below, span, number, reply, jumpSays}
 use Rattle.seq.specs.declared.numbers.Answer.{Answer}
 use Rattle.seq.specs.declared.numbers.Answer.the-variants.{Number, Range, SeqEnd}
 use Rattle.seq.proofs.Laws.{span-pos}

@@ -1,7 +1,7 @@
 -- The seed, by document 01, leaf 3, with its three answers. Assumes nothing.
 use Prim.Native.Nat.{ℕ, _*_, _%_, _^_}
 use mathlib.Core.Path.{_≡_, refl}
-use mathlib.Core.List.{List, [], _∷_, map}
+use mathlib.Core.List.{[], _∷_, map}
 
 -- multiplied by 1750509587, keeping the low 32 bits
 abbrev pub seedAfter : ℕ → ℕ

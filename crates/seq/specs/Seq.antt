@@ -1,7 +1,7 @@
 -- Sequence numbers and the skip list's arithmetic, by document 01, "Numbers" and leaf 2, said in multiples and not in bits;
 -- `zeros-top` of proofs/Laws says the bits. Assumes nothing: these are definitions.
 use Prim.Native.Nat.{ℕ, zero, suc, min, _+_, _-_, _*_, _/_, _%_, _^_, _≤_, _<_}
-use mathlib.Core.Bool.{Bool, true, false, cond}
+use mathlib.Core.Bool.{Bool, cond}
 use mathlib.Core.List.{List, [], _∷_}
 use lib.Dec.{leb, ltb, eqb}
 use lib.ListN.{getD}

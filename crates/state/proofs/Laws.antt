@@ -1,11 +1,10 @@
 -- What calls share: a refusal changes nothing, and what the passed checks say. Assumes nothing.
-use mathlib.Core.Path.{_≡_, refl, sym, _∙_}
+use mathlib.Core.Path.{_≡_, refl}
 use mathlib.Core.Bool.{Bool, true, false, cond, _&&_, _||_, not, and-eq-true-iff}
 use Prim.Native.Nat.{ℕ, _+_, _*_, _<_, _≤_}
 use native.Mathlib.Omega.{arith}
-use borrow.Author.Tests.{ltb-true, ltb-false, leb-true, eqb-true, not-false}
+use borrow.Author.Tests.{ltb-true, ltb-false, leb-true, eqb-true}
 use lib.Dec.{leb, ltb, eqb}
-use Rattle.seq.specs.Ids.{none}
 use Rattle.seq.specs.Seq.{limit}
 use Rattle.state.specs.declared.types.FileRecord.{FileRecord}
 use Rattle.state.specs.declared.types.Writer.{Writer}
@@ -13,11 +12,10 @@ use Rattle.state.specs.declared.types.Search.{Search}
 use Rattle.state.specs.declared.types.State.{State}
 use Rattle.state.specs.declared.types.Refusal.{Refusal}
 use Rattle.state.specs.declared.types.Refusal.the-variants.{BadSize, NotMounted, Busy, BadFile}
-use Rattle.state.specs.declared.types.Done.{Done}
 use Rattle.state.specs.declared.types.Done.the-variants.{Done as Fine, Refused}
 use Rattle.state.specs.Values.{inShape}
 use Rattle.state.specs.Checks.{sizes, idOk, writerOk, searchOk, isMounted, wrongSize, checks}
-use Rattle.state.specs.World.{World, Outcome, ended, kept, refuse}
+use Rattle.state.specs.World.{World, ended, kept, refuse}
 
 -- ---- outcomes
 

@@ -1,6 +1,6 @@
 -- Checks 1 to 4, in document 01's order, and when a state counts as mounted (DECISIONS 3). Assumes nothing: these are definitions.
 use Prim.Native.Nat.{ℕ, _+_, _*_}
-use mathlib.Core.Bool.{Bool, true, false, cond, _&&_, _||_, not}
+use mathlib.Core.Bool.{Bool, cond, _&&_, _||_, not}
 use lib.Dec.{leb, ltb, eqb}
 use Rattle.seq.specs.Ids.{none}
 use Rattle.seq.specs.Seq.{limit}

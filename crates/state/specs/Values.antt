@@ -2,11 +2,10 @@
 -- Assumes nothing: these are definitions.
 use Prim.Native.Nat.{ℕ, _+_}
 use mathlib.Core.Bool.{Bool, true, false, cond, _&&_}
-use mathlib.Core.List.{List, []}
+use mathlib.Core.List.{[]}
 use lib.Dec.{leb, ltb, eqb}
 use lib.ListN.{getD, set, replicate}
 use Rattle.seq.specs.Ids.{none}
-use Rattle.page.specs.declared.DataHeader.{DataHeader}
 use Rattle.page.specs.Page.{noHeader}
 use Rattle.state.specs.declared.types.FileRecord.{FileRecord}
 use Rattle.state.specs.declared.types.Table.{Table}

@@ -22,7 +22,7 @@ use Rattle.state.specs.declared.types.Done.{Done}
 use Rattle.state.specs.declared.types.Done.the-variants.{Done as Fine}
 use Rattle.state.specs.declared.types.Refusal.the-variants.{Damaged, NoRoom, SeqEnd}
 use Rattle.state.specs.Values.{fileAt, isEmpty, inShape, withCursor, withWriter}
-use Rattle.state.specs.World.{World, Outcome, kept, refuse, checked}
+use Rattle.state.specs.World.{World, Outcome, refuse, checked}
 use Rattle.writer.specs.Staging.{tooFew}
 
 -- nothing staged: the file's last page, which is full or none, is the page before

@@ -1,6 +1,6 @@
 -- Writing and ending a record, by document 01, "Files and transactions", paragraphs "Writer" and "NoRoom"; DECISIONS 7, 17 to 19.
 -- Assumes nothing: these are definitions.
-use Prim.Native.Nat.{ℕ, zero, suc, _+_, _-_}
+use Prim.Native.Nat.{ℕ, zero, suc, _+_}
 use mathlib.Core.Bool.{false, cond, not}
 use mathlib.Core.List.{List, [], _∷_, _++_}
 use lib.Dec.{eqb, ltb}

@@ -1,8 +1,8 @@
 -- `inventory::count_pages` meets its contract: the pages counted so far and those of the walk from the page at hand are all. A page more
 -- is a lower start, so that the count stays small.
 -- Assumes nothing.
-use mathlib.Core.Path.{_≡_, refl, sym, ap, _∙_}
-use Prim.Native.Nat.{_+_, _≤_, _<_}
+use mathlib.Core.Path.{_≡_, refl, ap, _∙_}
+use Prim.Native.Nat.{_+_, _≤_}
 use native.Mathlib.Omega.{arith}
 use denote.Ref.{now}
 use Rattle.chain.specs.declared.Kind.{Kind}

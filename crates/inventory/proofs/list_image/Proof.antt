@@ -2,7 +2,7 @@
 -- Assumes nothing.
 use Rattle.inventory.proofs.Exits.{list-long, handed, list-refused, list-files}
 use lib.ListN.{length, length-take, length-replicate}
-use Prim.Native.Nat.{_≤_, _/_}
+use Prim.Native.Nat.{_≤_}
 use native.Mathlib.Omega.{arith}
 use mathlib.Core.Path.{_∙_}
 use borrow.Author.Needs.{needs}

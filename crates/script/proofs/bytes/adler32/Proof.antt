@@ -5,8 +5,8 @@ use Rattle.script.proofs.Laws.{adler-more}
 use Rattle.script.specs.Bytes.{adler}
 use native.Mathlib.Omega.{arith}
 use lib.ListN.{length, drop, drop-of-length-le}
-use mathlib.Core.Path.{_≡_, refl, sym, ap, _∙_}
-use Prim.Native.Nat.{_+_, _*_, _≤_, _<_, _-_, _%_}
+use mathlib.Core.Path.{_≡_, refl, sym, _∙_}
+use Prim.Native.Nat.{_+_, _*_, _≤_, _<_, _-_}
 use Rattle.script.proofs.bytes.adler32.Statement.{statement}
 use Rattle.script.proofs.bytes.adler32.Tie as tie
 

@@ -7,7 +7,7 @@ use Rattle.runs.specs.Runs.{splice}
 use Rattle.runs.proofs.Laws.{placed-in}
 use native.Mathlib.Omega.{arith}
 use lib.ListN.{length, drop, getD, length-set}
-use mathlib.Core.Path.{_≡_, refl, sym, ap, _∙_}
+use mathlib.Core.Path.{_≡_, refl, sym, _∙_}
 use Prim.Native.Nat.{_+_, _*_, _≤_, _<_, _-_}
 use Rattle.script.proofs.bytes.decode.Statement.{statement}
 use Rattle.script.proofs.bytes.decode.Tie as tie

@@ -2,7 +2,6 @@
 -- Assumes nothing.
 use borrow.Author.Needs.{needs}
 use borrow.Author.Tests.{lt-ltb, le-ltb}
-use mathlib.Core.Path.{sym, _∙_}
 use Rattle.script.proofs.bytes.zero_in_front.Statement.{statement}
 use Rattle.script.proofs.bytes.zero_in_front.Tie as tie
 

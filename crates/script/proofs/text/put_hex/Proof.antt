@@ -1,16 +1,16 @@
 -- `script::text::put_hex` meets its contract. The invariant: the digits that are left, stored from o on, give what all of them give from
 -- at on.
 -- Assumes nothing.
-use Rattle.script.proofs.Laws.{splice-more, splice-none, hex-length, hex-stored}
+use Rattle.script.proofs.Laws.{splice-none, hex-length, hex-stored}
 use mathlib.Core.List.{[]}
-use Rattle.script.specs.Text.{behind, hexDigit, hexDigits}
+use Rattle.script.specs.Text.{behind, hexDigits}
 use Rattle.runs.specs.Runs.{splice}
 use Rattle.runs.proofs.Laws.{placed-in, placed-out}
 use borrow.Author.Needs.{needs}
 use borrow.Author.Tests.{lt-leb, le-leb}
 use native.Mathlib.Omega.{arith}
 use lib.ListN.{length, drop, drop-of-length-le, length-set}
-use mathlib.Core.Path.{_≡_, refl, sym, ap, _∙_}
+use mathlib.Core.Path.{_≡_, refl, sym, _∙_}
 use Prim.Native.Nat.{_+_, _*_, _≤_, _<_, _-_}
 use Rattle.script.proofs.text.put_hex.Statement.{statement}
 use Rattle.script.proofs.text.put_hex.Tie as tie

@@ -2,13 +2,12 @@
 -- Assumes nothing.
 use Rattle.script.proofs.Laws.{until-more, until-hit}
 use Rattle.script.specs.Text.{until}
-use Rattle.runs.proofs.Laws.{rest-drop}
 use borrow.Author.Needs.{needs}
 use borrow.Author.Tests.{eq-eqb, ne-eqb}
 use native.Mathlib.Omega.{arith}
 use lib.ListN.{length, take, drop, drop-of-length-le}
 use mathlib.Core.List.{_++_, append-nil}
-use mathlib.Core.Path.{_≡_, refl, sym, ap, _∙_}
+use mathlib.Core.Path.{_≡_, refl, sym, _∙_}
 use Prim.Native.Nat.{_≤_, _-_}
 use Rattle.script.proofs.text.until.Statement.{statement}
 use Rattle.script.proofs.text.until.Tie as tie

@@ -42,8 +42,7 @@ loop-again c =
     let a = l .before .before .before .before .before .before .before .before .before .before .args in
     let o = l .loop in
     let r = readAt (now (a .image)) in
-    let e = unbroken-reaches (a .count) r (o .left) (o .here) (g .back .result) (g .before .loop-test .taken) (g .back .ensures) (o .inv .1) in
-    (
+    let e = unbroken-reaches (a .count) r (o .left) (o .here) (g .back .result) (g .before .loop-test .taken) (g .back .ensures) (o .inv .1) in (
       rw (c .before .before .free2 .ensures) (freed-next (a .count) r (o .left) (o .map) (wide (o .here)) (g .back .result .place) (g .before .loop-test .taken) e (o .inv .1)) ∙ o .inv .0,
       unbroken-step (a .count) r (o .left) (wide (o .here)) (g .back .result .place) (g .before .loop-test .taken) e ∙ o .inv .1,
       omega arith,
