@@ -16,9 +16,6 @@ use state::types::Done;
 use state::types::Out;
 use state::types::State;
 use state::types::Table;
-ghost use mathlib.Core.Path.{_≡_};
-ghost use Rattle.state.specs.World.{before, after, result};
-ghost use Rattle.transact.specs.Rename.{flags as changedBy};
 
 // What a call hands back is the world from then on.
 fn told(out: &mut [u8], at: usize, world: World, r: Out) -> Turn {
@@ -204,30 +201,6 @@ pub fn on_writing(
     }
 }
 
-// Flags by value. transact changes them in the caller's own table, lent by `&mut`, which only a proof by hand could lend from here:
-// the table goes in and comes back instead, by the same definition.
-fn change_flags(image: &[u8], map: &[u8], table: Table, state: State, file: u8, flags: u8) -> Out
-    ensures { λ r. ⌜ after r (now (image .entry)) (now (map .entry))
-        ≡ result (λ w. changedBy w file flags) (before (now (image .entry)) (now (map .entry)) table state) ⌝ }
-{
-    let writer = state.writer;
-    let seen = state::checks::check(image.len(), map.len(), state, writer.active, file);
-    if let Done::Refused(why) = seen {
-        return Out {
-            answer: Done::Refused(why),
-            table,
-            state,
-        };
-    }
-    let t = state::flags::table_flags(table, file as usize, flags);
-    let s = state::values::open_transaction(state);
-    Out {
-        answer: Done::Done,
-        table: t,
-        state: s,
-    }
-}
-
 pub fn on_files(
     image: &mut [u8],
     map: &mut [u8],
@@ -248,7 +221,7 @@ pub fn on_files(
             told(out, at, world, r)
         }
         Files::Flags(file, flags) => {
-            let r = change_flags(image, map, table, state, file, flags);
+            let r = transact::flags::changed(image, map, table, state, file, flags);
             told(out, at, world, r)
         }
         Files::Commit => {

@@ -95,24 +95,27 @@ module _ (count : ℕ) (read : ℕ → Read) where
 
   -- ---- two limits
 
-  back-other : (t t′ : ℕ) (p q : PagePointer) → t < start p → t′ < start p → Goes (backRule count t) read p q → Goes (backRule count t′) read p q
+  -- a step above both limits is a step to either
+  pub back-other : (t t′ : ℕ) (p q : PagePointer) → t < start p → t′ < start p → Goes (backRule count t) read p q → Goes (backRule count t′) read p q
   back-other t t′ p q h h′ g = record { way = back-same count t′ p t h′ h ∙ g .way; stands = g .stands; meets = back-meets count t′ p (q .header) (back-falling count t p (q .header) (g .meets)) }
 
-  walked-prefix : (t t′ : ℕ) → t ≤ t′ → (p : PagePointer) (l : List PagePointer) → WalkedTo t p l
-      → (l′ m : List PagePointer) × (l ≡ l′ ++ m) × WalkedTo t′ p l′
+  -- a walk to t: its pages up to where the walk to t′ ends, and the walk to t from there
+  abbrev Parted : ℕ → ℕ → PagePointer → List PagePointer → Type 0
+  Parted t t′ p l = (l′ m : List PagePointer) × (l ≡ l′ ++ m) × WalkedTo t′ p l′ × WalkedTo t (oldest p l′) m
+
+  pub walked-prefix : (t t′ : ℕ) → t ≤ t′ → (p : PagePointer) (l : List PagePointer) → WalkedTo t p l → Parted t t′ p l
   walked-prefix t t′ h p [] w = go (decLe (start p) t′)
     where
-      go : Dec (start p ≤ t′) → (l′ m : List PagePointer) × ([] ≡ l′ ++ m) × WalkedTo t′ p l′
-      go (yes g) = ([], [], refl, back-here count t′ p g)
-      go (no g) = let f = lt-of-not-le g in ([], [], refl, back-same count t′ p t f (omega arith) ∙ w)
+      go : Dec (start p ≤ t′) → Parted t t′ p []
+      go (yes g) = ([], [], refl, back-here count t′ p g, w)
+      go (no g) = let f = lt-of-not-le g in ([], [], refl, back-same count t′ p t f (omega arith) ∙ w, w)
   walked-prefix t t′ h p (q ∷ l) w = go (decLe (start p) t′) (walked-prefix t t′ h q l (w .1))
     where
-      go : Dec (start p ≤ t′) → (l′ m : List PagePointer) × (l ≡ l′ ++ m) × WalkedTo t′ q l′
-          → (l′ m : List PagePointer) × (q ∷ l ≡ l′ ++ m) × WalkedTo t′ p l′
-      go (yes g) r = ([], q ∷ l, refl, back-here count t′ p g)
+      go : Dec (start p ≤ t′) → Parted t t′ q l → Parted t t′ p (q ∷ l)
+      go (yes g) r = ([], q ∷ l, refl, back-here count t′ p g, w)
       go (no g) r =
           let f = lt-of-not-le g in
-          (q ∷ r .0, r .1, ap (λ (x : List PagePointer). q ∷ x) (r .2), (back-other t t′ p q (omega arith) f (w .0), r .3))
+          (q ∷ r .0, r .1, ap (λ (x : List PagePointer). q ∷ x) (r .2), (back-other t t′ p q (omega arith) f (w .0), r .3), r .4)
 
   -- a walk that ends at a page ends at one for a higher limit too, and what it visits there is an initial part
   pub walk-prefix : (t t′ : ℕ) → t ≤ t′ → (p e : PagePointer) → walk count read t p .ends ≡ at e

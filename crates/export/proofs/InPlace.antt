@@ -8,14 +8,21 @@ use mir.Syntax.{Ty}
 use mir.Val.{Val, Vals, vnil, vunit, vbool, vint, vfloat, vptr, vstruct}
 use mir.Fields.{setV}
 use mir.Raw.{raw as rawTy}
-use base.Logic.{SProp, wand, all, allE, apply∗}
+use base.Logic.{SProp, ent, emp, snd∗, exE, wand, all, allE, apply∗}
 use base.Fml.{Share, fat}
+use prog.Memory.{Memory}
+use prog.Routine.{Routine}
 use prog.Wp.{Heap}
-use ghost.Atoms.{Atoms}
-use types.Kit.{Given, Item, ‵, raw, _⊛_, mean, _$_, _∵_, !, qed, move, use1, use2, split, assume, frame, each, done}
+use ghost.Atoms.{Atoms, sem}
+use contract.Monad.{Fun, fact}
+use types.Kit.{Given, Item, ‵, raw, _⊛_, mean, _$_, _∵_, !, qed, move, use1, use2, split, join, fjoin, assume, frame, each, done}
 use types.Part.{Part}
 use denote.Laws.{Is}
+use denote.Steps.{owned, nothing}
 use denote.Struct.Laws as LL
+use denote.Triple.Statement.{Contract}
+use denote.Triple.Spec.{tripleOf}
+use denote.Triple.Clauses.{ensured, lasts}
 use Rattle.state.specs.declared.types.State.{State}
 use Rattle.state.specs.declared.types.Search.{Search}
 use Rattle.state.specs.Values.{withSearch}
@@ -23,6 +30,12 @@ use Rattle.state.proofs.types.State as T
 use Rattle.state.proofs.types.State.Laws as T′
 use Rattle.state.proofs.types.Search as Q
 use Rattle.state.proofs.types.Search.Laws as Q′
+use Rattle.export.specs.declared.replies.SearchParts.{SearchParts}
+use Rattle.export.proofs.replies.SearchParts as O
+use Rattle.export.proofs.replies.SearchParts.Laws as O′
+use Rattle.export.specs.declared.replies.SearchReply.{SearchReply}
+use Rattle.export.proofs.replies.search_in as k
+use Rattle.export.proofs.replies.reply_in as m
 
 -- a cell within an entry that stands at the raw form of its type is one at the type, as `store-raw` has it for a whole entry
 module _ {M : Type 1} {𝓤 : URA M} {H : Heap 𝓤} {A : Atoms 𝓤} {K : Type 0} {W : Given 𝓤 H A} where
@@ -93,3 +106,32 @@ made h q v is q-is =
         ),
       ),
     ))
+
+-- ---- the two calls that take a search's parts apart
+
+module _ {M : Type 1} (𝓤 : URA M) (H : Heap 𝓤) (A : Atoms 𝓤) (at-mem : Memory → SProp 𝓤) (run : Routine → Fun 𝓤) where
+  abbrev pub K : Contract 𝓤
+  K = tripleOf 𝓤 H A k.signature (k.spec 𝓤 H A at-mem run)
+
+  abbrev pub N : Contract 𝓤
+  N = tripleOf 𝓤 H A m.signature (m.spec 𝓤 H A at-mem run)
+
+-- what they are passed, what they ask, and what is known of their results
+module _ {M : Type 1} (𝓤 : URA M) (H : Heap 𝓤) (A : Atoms 𝓤) (W : Given 𝓤 H A) (at-mem : Memory → SProp 𝓤) (run : Routine → Fun 𝓤) (a : SearchParts) (u : Val) where
+  abbrev pub to-k : K 𝓤 H A at-mem run .Ghost
+  to-k = ((tt, tt, tt, (a, tt), (u ∷ [], tt)), tt)
+
+  pub goes-k : Is O.the-row a (u ∷ []) → ent 𝓤 (emp 𝓤) (K 𝓤 H A at-mem run .pre to-k)
+  goes-k is = qed W [] ∵ nothing ! $ nothing ! $ owned ! O.the-row (Is O.the-row) (LL.makes O.the-type O′.the-plain 𝓤 H A) a _ is $ fjoin ! $ move ! (1 ∷ 0 ∷ []) $ join ! $ frame ! $ done !
+
+  pub k-said : (r : Search) → ent 𝓤 (ensured 𝓤 H A k.ended (k.clauses 𝓤 H A at-mem run) tt (a, tt) tt r) (fact 𝓤 (r ≡ a .search))
+  k-said r = exE 𝓤 _ (λ ws. snd∗ 𝓤 (sem 𝓤 H A (lasts k.ended tt (a, tt) ws)) (fact 𝓤 (r ≡ a .search)))
+
+  abbrev pub to-m : N 𝓤 H A at-mem run .Ghost
+  to-m = ((tt, tt, tt, (a, tt), (u ∷ [], tt)), tt)
+
+  pub goes-m : Is O.the-row a (u ∷ []) → ent 𝓤 (emp 𝓤) (N 𝓤 H A at-mem run .pre to-m)
+  goes-m is = qed W [] ∵ nothing ! $ nothing ! $ owned ! O.the-row (Is O.the-row) (LL.makes O.the-type O′.the-plain 𝓤 H A) a _ is $ fjoin ! $ move ! (1 ∷ 0 ∷ []) $ join ! $ frame ! $ done !
+
+  pub m-said : (r : SearchReply) → ent 𝓤 (ensured 𝓤 H A m.ended (m.clauses 𝓤 H A at-mem run) tt (a, tt) tt r) (fact 𝓤 (r ≡ a .reply))
+  m-said r = exE 𝓤 _ (λ ws. snd∗ 𝓤 (sem 𝓤 H A (lasts m.ended tt (a, tt) ws)) (fact 𝓤 (r ≡ a .reply)))

@@ -5,13 +5,11 @@ use replies::Reply;
 use replies::SearchParts;
 use replies::SearchReply;
 use replies::SeqReply;
-use state::types::Done;
-use state::types::Out;
 use state::types::State;
 use state::types::Table;
 ghost use mathlib.Core.Path.{_≡_};
 ghost use Rattle.state.specs.Values.{unmounted, emptyTable};
-ghost use Rattle.state.specs.World.{before, after, result};
+ghost use Rattle.state.specs.World.{before, result};
 ghost use Rattle.volume.specs.Format.{format};
 ghost use Rattle.volume.specs.Mount.{mount};
 ghost use Rattle.reader.specs.Ask.{freePages, usedPages};
@@ -249,28 +247,6 @@ pub extern "C" fn mv_rename(
     replies::reply_of(transact::rename::rename(image, map, table, state, from, to))
 }
 
-// By value, as transact's change of the caller's table in place.
-fn flags_out(image: &[u8], map: &[u8], table: Table, state: State, file: u8, flags: u8) -> Out
-    ensures { λ r. ⌜ after r (now (image .entry)) (now (map .entry)) ≡ result (λ w. changedBy w file flags) (before (now (image .entry)) (now (map .entry)) table state) ⌝ }
-{
-    let writer = state.writer;
-    let seen = state::checks::check(image.len(), map.len(), state, writer.active, file);
-    if let Done::Refused(why) = seen {
-        return Out {
-            answer: Done::Refused(why),
-            table,
-            state,
-        };
-    }
-    let t = state::flags::table_flags(table, file as usize, flags);
-    let s = state::values::open_transaction(state);
-    Out {
-        answer: Done::Done,
-        table: t,
-        state: s,
-    }
-}
-
 // Sets a file's flags.
 #[no_mangle]
 pub extern "C" fn mv_flags(
@@ -283,7 +259,7 @@ pub extern "C" fn mv_flags(
 ) -> Reply
     ensures { λ r. ⌜ Replied r (now (image .entry)) (now (map .entry)) (result (λ w. changedBy w file flags) (before (now (image .entry)) (now (map .entry)) table state)) ⌝ }
 {
-    replies::reply_of(flags_out(image, map, table, state, file, flags))
+    replies::reply_of(transact::flags::changed(image, map, table, state, file, flags))
 }
 
 // Makes all changes since the last commit last.

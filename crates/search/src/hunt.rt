@@ -260,6 +260,7 @@ fn seek_to_page(
     let page = look_at(image, count, left, target, limit, id);
     let seen = page.seen;
     let header = page.header;
+    // each arm returns by itself: joined, the result is copied once more, in pieces that do not match
     match seen {
         Seen::Wrong => {
             return without(Kind::Broken);

@@ -24,7 +24,8 @@ use Rattle.state.specs.World.{World, Outcome, kept, refuse}
 use Rattle.transact.specs.Truncate.{dirtied, others, unreached, heldAll, newFirst, changedFile, truncatedBy, truncateIn, truncate}
 use Rattle.transact.specs.Rename.{swapped, changedTable, rename, flags}
 use Rattle.transact.specs.Walks.{follows}
-use Rattle.transact.proofs.Steps.{ends-page, follows-says}
+use Rattle.chain.proofs.Edges.{ends-page}
+use Rattle.transact.proofs.Steps.{follows-says}
 
 -- ---- what a call may change: nothing, or one file and the map
 

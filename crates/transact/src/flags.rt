@@ -1,10 +1,11 @@
 // Flags: the table is the caller's and is changed in place.
 use state::types::Done;
+use state::types::Out;
 use state::types::State;
 use state::types::Table;
 ghost use mathlib.Core.Path.{_≡_};
 ghost use lib.ListN.{length};
-ghost use Rattle.state.specs.World.{before, result};
+ghost use Rattle.state.specs.World.{before, after, result};
 ghost use Rattle.transact.specs.Rename.{flags as changedBy};
 ghost use Rattle.transact.specs.Flags.{flagsAnswer, flagsTable, afterFlags};
 
@@ -60,4 +61,27 @@ pub fn change_flags(
     let out = flags_answer(image, map, state, file);
     *table = flags_table(image, map, *table, state, file, flags);
     out
+}
+
+// The same by value, for callers that cannot lend a table: it goes in and comes back.
+pub fn changed(image: &[u8], map: &[u8], table: Table, state: State, file: u8, flags: u8) -> Out
+    ensures { λ r. ⌜ after r (now (image .entry)) (now (map .entry))
+        ≡ result (λ w. changedBy w file flags) (before (now (image .entry)) (now (map .entry)) table state) ⌝ }
+{
+    let writer = state.writer;
+    let seen = state::checks::check(image.len(), map.len(), state, writer.active, file);
+    if let Done::Refused(why) = seen {
+        return Out {
+            answer: Done::Refused(why),
+            table,
+            state,
+        };
+    }
+    let t = state::flags::table_flags(table, file as usize, flags);
+    let s = state::values::open_transaction(state);
+    Out {
+        answer: Done::Done,
+        table: t,
+        state: s,
+    }
 }

@@ -5,14 +5,14 @@ use borrow.Author.Needs.{needs}
 use Rattle.export.proofs.mv_flags.Statement.{statement}
 use Rattle.export.proofs.mv_flags.Tie as tie
 
-flags-out-requires : tie.Need-flags-out-requires
-flags-out-requires c κs = search needs
+changed-requires : tie.Need-changed-requires
+changed-requires c κs = search needs
 
 reply-of-requires : tie.Need-reply-of-requires
 reply-of-requires c κs = search needs
 
 returns : tie.Need-returns
-returns c = replied-is _ _ _ _ _ (c .reply-of .ensures) (c .before .flags-out .ensures)
+returns c = replied-is _ _ _ _ _ (c .reply-of .ensures) (c .before .changed .ensures)
 
 pub mv-flags-spec : {M : Type 1} → statement M
-mv-flags-spec = tie.close (tie.spec flags-out-requires reply-of-requires returns)
+mv-flags-spec = tie.close (tie.spec changed-requires reply-of-requires returns)

@@ -11,8 +11,9 @@ use Rattle.chain.specs.Steps.{readAt}
 use Rattle.chain.specs.Seek.{found}
 use Rattle.chain.specs.Back.{wide, walkBack}
 use Rattle.chain.proofs.Places.{SaysBack, says-back}
+use Rattle.chain.proofs.Edges.{ends-not, ends-through}
 use Rattle.transact.specs.Truncate.{others, heldAll}
-use Rattle.transact.proofs.Steps.{ends-not, ends-through, held-stays, held-reaches}
+use Rattle.transact.proofs.Steps.{held-stays, held-reaches}
 use borrow.Author.Needs.{needs}
 use Rattle.transact.proofs.walk.hold_back.Statement.{statement}
 use Rattle.transact.proofs.walk.hold_back.Tie as tie
