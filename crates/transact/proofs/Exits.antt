@@ -28,7 +28,7 @@ use Rattle.state.specs.Values.{fileAt, withFlags, inShape, opened, closed, with
 use Rattle.state.specs.Refusals.{onDone}
 use Rattle.state.specs.Checks.{checks}
 use Rattle.state.specs.World.{World, Outcome, ended, result, kept, refuse, after}
-use Rattle.transact.specs.Truncate.{dirtied, newFirst, cut, unreached, heldAll, changedFile, truncatedBy, truncateIn, truncate}
+use Rattle.transact.specs.Truncate.{emptied, newFirst, cut, unreached, heldAll, changedFile, truncatedBy, truncateIn, truncate}
 use Rattle.transact.specs.Rename.{swapped, changedTable, rename, flags}
 use Rattle.transact.specs.declared.flags.Flagged.{Flagged}
 use Rattle.transact.specs.Flags.{afterFlags, flagsAnswer, flagsTable}
@@ -86,7 +86,7 @@ module _ (w : World) (i bytes : ℕ) where
   unfolding truncate
   truncate-none e h = rw (e, eq-eqb bytes 0 h)
 
-  pub truncate-empty : Checked w i Fine → (bytes ≡ 0 → ⊥) → file .«last_page» ≡ none → truncate w i bytes ≡ changedFile w i (w .map) (dirtied file)
+  pub truncate-empty : Checked w i Fine → (bytes ≡ 0 → ⊥) → file .«last_page» ≡ none → truncate w i bytes ≡ changedFile w i (w .map) emptied
   unfolding truncate truncateIn
   truncate-empty e h k = rw (e, ne-eqb bytes 0 h, eq-eqb (file .«last_page») none k)
 

@@ -37,7 +37,7 @@ pub fn truncate(
     let i = file as usize;
     let f = table.files[i];
     if f.last_page == 65535 {
-        return files::change(table, state, i, files::dirty(f));
+        return files::change(table, state, i, files::emptied());
     }
     let count = state.page_count as usize;
     let first = files::new_first(f, bytes);

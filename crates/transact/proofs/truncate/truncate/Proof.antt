@@ -52,7 +52,7 @@ returns-3 c =
     let c12 = c8 .before .before .before .before in
     let a = c12 .args in
     let w = before (now (a .image)) (now (a .map)) (a .t3) (a .state) in
-    changed-is (λ (x : World). truncate x (a .file) (a .bytes)) w _ _ _ _ _ _ (c .change .ensures) (c .before .dirty .ensures) refl
+    changed-is (λ (x : World). truncate x (a .file) (a .bytes)) w _ _ _ _ _ _ (c .change .ensures) (c .before .emptied .ensures) refl
     (truncate-empty w (a .file) (a .bytes) (sym (c8 .check .ensures) ∙ c6 .enum-told .given .1) (c5 .if1 .left) (c .before .before .if2 .taken))
 
 edge-of-requires : tie.Need-edge-of-requires
