@@ -37,11 +37,11 @@ use Rattle.agree.specs.View.{asFile, recAt}
 use Rattle.agree.proofs.Finish.{numbers}
 use Rattle.agree.proofs.Keeps.{cond-by, checked-by, known, in-table}
 use Rattle.agree.proofs.Open.{ready-file, copy-file}
-use Rattle.agree.proofs.Records.{file-live, file-by, file-at, file-end}
+use Rattle.agree.proofs.Records.{file-live, file-at, file-end}
 use Rattle.agree.proofs.Ruling.{record-chain, stays-far}
 use Rattle.agree.proofs.Writes.{some}
 use Rattle.owners.specs.State.{firstOf, lastOf}
-use Rattle.owners.specs.Store.{File, limit}
+use Rattle.owners.specs.Store.{limit}
 use Rattle.page.specs.Page.{pageOf, readable, holds}
 use Rattle.page.proofs.Headers.{header-bounds, header-there, holds-in}
 use Rattle.page.proofs.Laws.{page-length}

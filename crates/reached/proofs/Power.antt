@@ -6,7 +6,6 @@ use mathlib.Core.Logic.{inl, inr}
 use native.Mathlib.Omega.{arith}
 use lib.ListN.{length}
 use Rattle.page.proofs.Laws.{ran-length}
-use Rattle.state.specs.declared.types.Done.{Done}
 use Rattle.state.specs.declared.types.Done.the-variants.{Done as Fine}
 use Rattle.state.specs.declared.types.Table.{Table}
 use Rattle.state.specs.declared.types.State.{State}
@@ -22,7 +21,7 @@ use Rattle.reader.specs.Locate.{locateIn, locate}
 use Rattle.reader.proofs.Live.{locate-depends}
 use Rattle.calls.specs.Calls as calls
 use Rattle.calls.specs.Calls.{step, FromEither, FromFormat, starts, goes, formats, reaches, boots, powered}
-use Rattle.reached.specs.Asked.{with-image, AgreesOnPath, afresh, Again, Reads}
+use Rattle.reached.specs.Asked.{with-image, AgreesOnPath, afresh, Reads}
 use Rattle.reached.specs.Ledger as ledger
 use Rattle.reached.specs.Ledger.{Ledger, Written, PowersUp}
 use Rattle.reached.proofs.Held.{Held, boot-fine, boot-idle, boot-held, step-held, format-reached}

@@ -25,7 +25,7 @@ use Rattle.reached.specs.Ledger.{Noted, Ledger, blank, nothing, put-at, 
 use Prim.Native.Nat.{ℕ, _+_, _-_, _*_, _≤_, _<_, min}
 use mathlib.Core.Path.{_≡_, refl, sym, ap, ap₂, subst, _∙_}
 use mathlib.Core.Bool.{Bool, true, false, cond}
-use mathlib.Core.List.{List, [], map}
+use mathlib.Core.List.{List, map}
 use native.Mathlib.Omega.{arith}
 use native.Mathlib.Decide.{ℕ-discrete}
 use lib.ListN.{length, getD}
@@ -34,21 +34,20 @@ use borrow.Author.Tests.{eq-eqb, ne-eqb, eqb-true, eqb-false}
 use Rattle.state.specs.declared.types.FileRecord.{FileRecord}
 use Rattle.state.specs.declared.types.Done.{Done}
 use Rattle.state.specs.declared.types.Done.the-variants.{Done as Fine}
-use Rattle.reached.specs.Asked.{writer, byte, byteAt}
+use Rattle.reached.specs.Asked.{writer, byteAt}
 use Rattle.reached.proofs.Held.{Held, boots-as, boot-fine, boot-known, boot-held, step-held, format-reached}
 use Rattle.reached.proofs.Ledgers.{Notes, write-notes, finish-notes}
 use Rattle.reached.proofs.Noted.{flags-quiet, set-text, rename-notes, commit-notes}
 use Rattle.reached.proofs.Opens.{open-notes}
-use Rattle.reached.proofs.Tells.{Spells, Bare, Text, Tale, tale-of, Tells, tells-quiet, start-quiet, answered-quiet, record-end-quiet, discard-quiet}
+use Rattle.reached.proofs.Tells.{Spells, Bare, Text, tale-of, Tells, tells-quiet, start-quiet, answered-quiet, record-end-quiet, discard-quiet}
 use Rattle.agree.specs.Good.{Known}
 use Rattle.agree.specs.View.{view, asFile, recAt}
 use Rattle.owners.specs.State.{Base, Mounted}
 use Rattle.agree.proofs.Format.{empty-at, format-known}
 use Rattle.agree.proofs.Found.{mount-finds}
 use Rattle.agree.proofs.Keeps.{cond-by, checked-by, known, in-table}
-use Rattle.agree.proofs.Mount.{mount-known}
 use Rattle.agree.proofs.Pages.{clash}
-use Rattle.agree.proofs.Records.{file-gone, file-live, empty-gone, file-at, with-at, with-eight}
+use Rattle.agree.proofs.Records.{file-gone, file-live, empty-gone, file-at}
 use Rattle.agree.proofs.Writes.{some}
 use Rattle.owners.specs.Store.{File, gone}
 use Rattle.owners.proofs.Commit.{idle, committed}
@@ -57,7 +56,7 @@ use Rattle.page.specs.Page.{Bytes}
 use Rattle.page.proofs.Laws.{ran-length}
 use Rattle.state.specs.Checks.{sizes}
 use Rattle.state.specs.Refusals.{onDone}
-use Rattle.state.specs.Values.{emptyRecord, emptyTable, fileAt, withFile, isEmpty, inShape, noWriter, opened, closed}
+use Rattle.state.specs.Values.{emptyRecord, emptyTable, fileAt, isEmpty, inShape, noWriter, opened, closed}
 use Rattle.state.proofs.Laws.{sizes-say}
 use Rattle.chain.specs.Steps.{readAt, Sought, seek, walk}
 use Rattle.chain.proofs.Seeks.{right}
