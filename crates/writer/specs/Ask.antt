@@ -1,5 +1,5 @@
 -- The writer's small questions; DECISIONS 46. Assumes nothing: these are definitions.
-use Prim.Native.Nat.{ℕ, _+_}
+use Prim.Native.Nat.{_+_}
 use mathlib.Core.Bool.{cond}
 use Rattle.state.specs.declared.types.Table.{Table}
 use Rattle.state.specs.declared.types.Writer.{Writer}
