@@ -1,5 +1,6 @@
 -- Refusals, by document 01, "Refusal numbers". Assumes nothing: these are definitions.
 use Prim.Native.Nat.{ℕ}
+use mathlib.Core.List.{List, [], _∷_}
 use Rattle.state.specs.declared.types.Refusal.{Refusal}
 use Rattle.state.specs.declared.types.Refusal.the-variants.{BadSize, NotMounted, Busy, BadFile, Damaged, Eof, Short, NoRoom, SeqEnd, NoSearch, Gone, Range}
 use Rattle.state.specs.declared.types.Done.{Done}
@@ -20,7 +21,12 @@ number NoSearch = 10
 number Gone = 11
 number Range = 12
 
--- its place in the order of checking: 1, 2, 3, 4, 12, 11, 6, 7, 9, 8, 10, 5
+-- an answer in document 01's numbers: 0, or the refusal's number; then the values that come with it
+abbrev pub numbers : Done → List ℕ
+numbers Fine = 0 ∷ []
+numbers (Refused why) = number why ∷ []
+
+-- a refusal's place in the order of checking: 1, 2, 3, 4, 12, 11, 6, 7, 9, 8, 10, 5
 abbrev pub place : Refusal → ℕ
 place BadSize = 0
 place NotMounted = 1
