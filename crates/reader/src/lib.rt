@@ -10,8 +10,8 @@ ghost use Rattle.reader.specs.Read.{afterRead, readTold, read};
 ghost use Rattle.reader.specs.Skip.{skippedNumbers, skip, seekOffset};
 
 pub mod ask;
-pub mod pages;
-pub mod reading;
+mod pages;
+mod reading;
 
 pub struct Reader {
     pub file: u8,
