@@ -1,25 +1,18 @@
 -- What calls share: a refusal changes nothing, and what the passed checks say. Assumes nothing.
-use mathlib.Core.Path.{_≡_, refl, sym, ap, _∙_}
+use mathlib.Core.Path.{_≡_, refl}
 use mathlib.Core.Bool.{Bool, true, false, cond, _&&_, _||_, not, and-eq-true-iff}
-use mathlib.Core.List.{[], _∷_}
 use Prim.Native.Nat.{ℕ, _+_, _*_, _<_, _≤_}
 use native.Mathlib.Omega.{arith}
 use borrow.Author.Tests.{ltb-true, ltb-false, leb-true, eqb-true}
 use lib.Dec.{leb, ltb, eqb}
-use lib.ListN.{getD}
 use Rattle.seq.specs.Seq.{limit}
 use Rattle.state.specs.declared.types.FileRecord.{FileRecord}
 use Rattle.state.specs.declared.types.Writer.{Writer}
 use Rattle.state.specs.declared.types.Search.{Search}
 use Rattle.state.specs.declared.types.State.{State}
 use Rattle.state.specs.declared.types.Refusal.{Refusal}
-use Rattle.state.specs.declared.types.Refusal.the-variants.{BadSize, NotMounted, Busy, BadFile, Damaged, Eof, Short, NoRoom, SeqEnd, NoSearch, Gone, Range}
+use Rattle.state.specs.declared.types.Refusal.the-variants.{BadSize, NotMounted, Busy, BadFile}
 use Rattle.state.specs.declared.types.Done.the-variants.{Done as Fine, Refused}
-use Rattle.state.specs.declared.types.Asked.{Asked}
-use Rattle.state.specs.declared.types.Asked.the-variants.{Number, Refused as Unasked}
-use Rattle.state.specs.declared.types.Whether.{Whether}
-use Rattle.state.specs.declared.types.Whether.the-variants.{Yes, No, Refused as Untold}
-use Rattle.state.specs.Refusals.{number, askedNumbers, whetherNumbers}
 use Rattle.state.specs.Values.{inShape}
 use Rattle.state.specs.Checks.{sizes, idOk, writerOk, searchOk, isMounted, wrongSize, checks}
 use Rattle.state.specs.World.{World, ended, kept, refuse}
@@ -198,43 +191,3 @@ shape-says count f h =
       end = eqb-true _ _ (b .1);
       some = ltb-true _ _ (a .1);
     }
-
--- ---- two answers with the same numbers are one
-
-abbrev named : ℕ → Refusal
-named n =
-    getD (Range ∷ BadSize ∷ NotMounted ∷ Busy ∷ BadFile ∷ Damaged ∷ Eof ∷ Short ∷ NoRoom ∷ SeqEnd ∷ NoSearch ∷ Gone ∷ []) n Range
-
-named-number : (why : Refusal) → named (number why) ≡ why
-named-number BadSize = refl
-named-number NotMounted = refl
-named-number Busy = refl
-named-number BadFile = refl
-named-number Damaged = refl
-named-number Eof = refl
-named-number Short = refl
-named-number NoRoom = refl
-named-number SeqEnd = refl
-named-number NoSearch = refl
-named-number Gone = refl
-named-number Range = refl
-
-pub number-one : (a b : Refusal) → number a ≡ number b → a ≡ b
-number-one a b e = sym (named-number a) ∙ ap named e ∙ named-number b
-
-pub asked-one : (a b : Asked) → askedNumbers a ≡ askedNumbers b → a ≡ b
-asked-one (Number m) (Number n) e = cc
-asked-one (Number m) (Unasked b) e = cc
-asked-one (Unasked a) (Number n) e = cc
-asked-one (Unasked a) (Unasked b) e = ap Unasked (number-one a b (cc))
-
-pub whether-one : (a b : Whether) → whetherNumbers a ≡ whetherNumbers b → a ≡ b
-whether-one Yes Yes e = refl
-whether-one Yes No e = cc
-whether-one Yes (Untold b) e = cc
-whether-one No Yes e = cc
-whether-one No No e = refl
-whether-one No (Untold b) e = cc
-whether-one (Untold a) Yes e = cc
-whether-one (Untold a) No e = cc
-whether-one (Untold a) (Untold b) e = ap Untold (number-one a b (cc))

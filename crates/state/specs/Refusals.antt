@@ -25,7 +25,12 @@ number NoSearch = 10
 number Gone = 11
 number Range = 12
 
--- its place in the order of checking: 1, 2, 3, 4, 12, 11, 6, 7, 9, 8, 10, 5
+-- an answer in document 01's numbers: 0, or the refusal's number; then the values that come with it
+abbrev pub numbers : Done → List ℕ
+numbers Fine = 0 ∷ []
+numbers (Refused why) = number why ∷ []
+
+-- a refusal's place in the order of checking: 1, 2, 3, 4, 12, 11, 6, 7, 9, 8, 10, 5
 abbrev pub place : Refusal → ℕ
 place BadSize = 0
 place NotMounted = 1

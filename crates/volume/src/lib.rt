@@ -18,7 +18,7 @@ ghost use Rattle.page.specs.Page.{pageOf, metaOf};
 ghost use Rattle.page.specs.Store.{ran};
 ghost use Rattle.map.specs.Map.{cleared, used};
 ghost use Rattle.chain.specs.Steps.{readAt, walk};
-ghost use Rattle.state.specs.World.{before, after, result};
+ghost use Rattle.state.specs.World.{before, after, result, yields, promised};
 ghost use Rattle.volume.specs.Scan.{better, scan};
 ghost use Rattle.volume.specs.Format.{erasedIf, erasures, formatStores, format};
 ghost use Rattle.volume.specs.Mount.{claimed, load, loadFrom, bestOk, mountFrom, mountBest, mount};
@@ -128,7 +128,7 @@ fn fresh_map(map: &mut [u8], count: usize, p: usize)
 }
 
 pub fn format(image: &mut [u8], map: &mut [u8], table: Table, state: State) -> Out
-    ensures { λ r. ⌜ after r (now (image .exit)) (now (map .exit)) ≡ result format (before (now (image .entry)) (now (map .entry)) table state) ⌝ }
+    ensures { λ r. ⌜ yields r (now (image .exit)) (now (map .exit)) ≡ promised format (before (now (image .entry)) (now (map .entry)) table state) ⌝ }
 {
     let n = map.len();
     if state::checks::sizes_fit(image.len(), n) {
@@ -316,7 +316,7 @@ fn mount_best(image: &[u8], map: &mut [u8], table: Table, state: State, best: Be
 // ---- mount: the call
 
 pub fn mount(image: &[u8], map: &mut [u8], table: Table, state: State) -> Out
-    ensures { λ r. ⌜ after r (now (image .entry)) (now (map .exit)) ≡ result mount (before (now (image .entry)) (now (map .entry)) table state) ⌝ }
+    ensures { λ r. ⌜ yields r (now (image .entry)) (now (map .exit)) ≡ promised mount (before (now (image .entry)) (now (map .entry)) table state) ⌝ }
 {
     let n = map.len();
     if state::checks::sizes_fit(image.len(), n) {
