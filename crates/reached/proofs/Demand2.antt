@@ -10,15 +10,12 @@ use Rattle.volume.specs.Scan.{scan}
 use Rattle.transact.specs.Commit.{commit}
 use Rattle.owners.specs.Store as st
 use Rattle.chain.specs.Seek.{Agree}
-use Rattle.state.specs.World.{refuse}
-use Rattle.state.specs.declared.types.Refusal.the-variants.{BadSize}
-use Prim.Native.Nat.{ℕ, _+_, _-_, _*_, _≤_, _<_}
+use Prim.Native.Nat.{ℕ, _+_, _-_, _≤_, _<_}
 use mathlib.Core.Path.{_≡_, refl, sym, ap, ap₂, subst, _∙_}
 use mathlib.Core.Bool.{Bool, true, false, cond}
 use mathlib.Core.List.{List, [], _∷_, map}
 use native.Mathlib.Omega.{arith}
 use lib.ListN.{length, getD}
-use borrow.Author.Tests.{eq-eqb, le-leb}
 use Rattle.page.specs.declared.DataHeader.{DataHeader}
 use Rattle.state.specs.declared.types.FileRecord.{FileRecord}
 use Rattle.state.specs.declared.types.Table.{Table}
@@ -28,6 +25,7 @@ use Rattle.state.specs.declared.types.Done.the-variants.{Done as Fine}
 use Rattle.chain.specs.declared.PagePointer.{PagePointer}
 use Rattle.reached.specs.Asked.{file, nowhere, byte, byteBy, byteAt, SameFile, afresh, Again}
 use Rattle.reached.proofs.Reach.{Sound}
+use Rattle.reached.proofs.Boots.{boots-as}
 use Rattle.agree.specs.Good.{RecordOk, Good}
 use Rattle.agree.specs.View.{view, asFile, recAt}
 use Rattle.agree.proofs.Commit.{Commits, commit-keeps}
@@ -42,7 +40,7 @@ use Rattle.owners.specs.State.{Base}
 use Rattle.owners.specs.Store.{Link, dat, Store, File, live, Owner, Mem, here, there, Walk, FileOk}
 use Rattle.owners.proofs.Walks.{shorter-sub, walk-shorter}
 use Rattle.page.specs.Page.{pageOf, Read, readable, headerOf, holds}
-use Rattle.state.specs.Checks.{sizes, isMounted}
+use Rattle.state.specs.Checks.{isMounted}
 use Rattle.state.specs.Values.{emptyRecord, absent, fileAt, closed}
 use Rattle.chain.specs.Links.{oldest, ids}
 use Rattle.chain.specs.Steps.{readAt, backRule, Trace, walk, visited}
@@ -172,26 +170,14 @@ module _ {D : Type 0} {N : ℕ} {w : World} {b : Base} {own : ℕ → Owner} (g 
     abbrev v : World
     v = afresh w m t s
 
-    F : Finds img′ (g′ .inv .mounted)
+    abbrev F : Finds img′ (g′ .inv .mounted)
     F = mount-finds img′ (g′ .inv .mounted) (g′ .sees .bytes)
 
     n-is : length m ≡ N
     n-is = size ∙ g .sees .owners .size
 
-    sizes-ok : sizes (length img′) (length m) ≡ true
-    unfolding sizes
-    sizes-ok =
-        let lo : 4 ≤ length m = omega (arith, n-is, g .sees .big) in
-        let hi : length m ≤ 1024 = omega (arith, n-is, g .sees .small) in
-        let e : length img′ ≡ 256 * length m = g′ .sees .size ∙ ap (λ (k : ℕ). 256 * k) (sym n-is) in
-        rw (le-leb 4 (length m) lo, le-leb (length m) 1024 hi, eq-eqb (length img′) (256 * length m) e)
-
     mount-is : volume-mount.mount (afresh w m t s) ≡ volume-mount.mountedAs (afresh w m t s) (length m) (seedAfter (s .seed)) (scan img′ (length m)) (good (F .loaded))
-    unfolding volume-mount.mount volume-mount.mountWith volume-mount.mountBest
-    mount-is =
-        ap (λ (c : Bool). cond c (volume-mount.mountedAs v (length m) (seedAfter (s .seed)) (scan img′ (length m)) (volume-mount.mountFrom img′ (length m) (scan img′ (length m)))) (refuse v BadSize)) sizes-ok
-        ∙ ap (volume-mount.mountedAs v (length m) (seedAfter (s .seed)) (scan img′ (length m)))
-        (subst (λ (k : ℕ). volume-mount.mountFrom img′ k (scan img′ k) ≡ good (F .loaded)) (sym n-is) (F .is))
+    mount-is = boots-as g′ m t s n-is
 
     pub mounted-again : Again w m t s
     unfolding settled

@@ -1,24 +1,19 @@
 -- In every world that calls reach from a format the invariant holds with the link rule, so that it counts as mounted. Assumes nothing.
 use Rattle.state.specs.declared.types.Done.the-variants.{Done as Fine}
-use Rattle.state.specs.World.{World, Outcome, ended, result, refuse}
-use Rattle.state.specs.Values.{settled}
+use Rattle.state.specs.World.{World, Outcome, ended, result}
 use Rattle.state.specs.declared.types.Table.{Table}
 use Rattle.state.specs.declared.types.State.{State}
-use Rattle.state.specs.declared.types.Refusal.the-variants.{BadSize}
 use Rattle.seq.specs.Seed.{seedAfter}
 use Rattle.volume.specs.Format as volume-format
 use Rattle.volume.specs.Mount as volume-mount
 use Rattle.volume.specs.Mount.{good}
-use Rattle.volume.specs.declared.Best.{Best}
 use Rattle.volume.specs.Scan.{scan}
 use Rattle.calls.specs.Calls as calls
 use Rattle.calls.specs.Calls.{Call, step, FromFormat, formats, reaches, boots, powered}
-use Prim.Native.Nat.{ℕ, _*_, _≤_}
-use mathlib.Core.Path.{_≡_, refl, sym, ap, subst, _∙_}
-use mathlib.Core.Bool.{Bool, true, false, cond}
+use Prim.Native.Nat.{ℕ}
+use mathlib.Core.Path.{_≡_, refl, sym, subst}
+use mathlib.Core.Bool.{true}
 use mathlib.Core.List.{List, map}
-use native.Mathlib.Omega.{arith}
-use borrow.Author.Tests.{eq-eqb, le-leb}
 use lib.ListN.{length}
 use Rattle.state.specs.declared.types.Done.{Done}
 use Rattle.agree.specs.Good.{Known}
@@ -28,7 +23,8 @@ use Rattle.agree.proofs.Commit.{commit-keeps}
 use Rattle.agree.proofs.Counts.{good-mounted}
 use Rattle.agree.proofs.Finish.{finish-keeps, discard-keeps}
 use Rattle.agree.proofs.Format.{format-known}
-use Rattle.agree.proofs.Found.{Finds, mount-finds}
+use Rattle.reached.proofs.Boots.{found, finds, sizes-ok, boots-as}
+use Rattle.agree.proofs.Found.{mount-finds}
 use Rattle.agree.proofs.Keeps.{cond-by, known, start-keeps, left-keeps, right-keeps, flags-keeps, rename-keeps, record-end-keeps}
 use Rattle.agree.proofs.Mount.{mount-known}
 use Rattle.agree.proofs.Open.{open-keeps}
@@ -70,45 +66,11 @@ format-held w k =
 -- ---- MOUNT: it finds what was committed, with any map of that length, table and state
 
 module _ {w : World} (k : Held w) (m : List ℕ) (t : Table) (s : State) (same : length m ≡ length (w .map)) where
-  abbrev v : World
-  v = powered w m t s
-
-  abbrev best : Best
-  best = scan (w .image) (length m)
-
-  abbrev F : Finds (w .image) (k .good .inv .mounted)
-  F = mount-finds (w .image) (k .good .inv .mounted) (k .good .sees .bytes)
-
-  finds : volume-mount.mountFrom (w .image) (length m) (scan (w .image) (length m)) ≡ good (mount-finds (w .image) (k .good .inv .mounted) (k .good .sees .bytes) .loaded)
-  finds = subst (λ (n : ℕ). volume-mount.mountFrom (w .image) n (scan (w .image) n) ≡ good (F .loaded)) (sym same) (F .is)
-
-  sizes-ok : sizes (length (w .image)) (length m) ≡ true
-  unfolding sizes
-  sizes-ok =
-      let lo : 4 ≤ length m = omega (arith, k .good .sees .big) in
-      let hi : length m ≤ 1024 = omega (arith, k .good .sees .small) in
-      let e : length (w .image) ≡ 256 * length m = k .good .sees .size ∙ ap (λ (n : ℕ). 256 * n) (sym same) in
-      rw (le-leb 4 (length m) lo, le-leb (length m) 1024 hi, eq-eqb (length (w .image)) (256 * length m) e)
-
-  pub boots-as : volume-mount.mount (powered w m t s) ≡ volume-mount.mountedAs (powered w m t s) (length m) (seedAfter (s .seed)) (scan (w .image) (length m)) (good (mount-finds (w .image) (k .good .inv .mounted) (k .good .sees .bytes) .loaded))
-  unfolding volume-mount.mount volume-mount.mountWith volume-mount.mountBest
-  boots-as =
-      ap (λ (c : Bool). cond c (volume-mount.mountedAs v (length m) (seedAfter (s .seed)) best (volume-mount.mountFrom (w .image) (length m) best)) (refuse v BadSize)) sizes-ok
-      ∙ ap (volume-mount.mountedAs v (length m) (seedAfter (s .seed)) best) finds
-
-  -- it succeeds, and nothing is open
-  pub boot-fine : volume-mount.mount (powered w m t s) .answer ≡ Fine
-  boot-fine = ap (λ (o : Outcome Done). o .answer) boots-as
-
-  pub boot-idle : volume-mount.mount (powered w m t s) .state .transaction ≡ false
-  unfolding settled
-  boot-idle = ap (λ (o : Outcome Done). o .state .transaction) boots-as
-
   -- a known world, with the link rule where it is asked
   pub boot-known : (D : Type 0) → Known D (length m) (ended (powered w m t s) (volume-mount.mountedAs (powered w m t s) (length m) (seedAfter (s .seed)) (scan (w .image) (length m)) (good (mount-finds (w .image) (k .good .inv .mounted) (k .good .sees .bytes) .loaded))) .world)
   boot-known D =
-      let z = sizes-say (length (w .image)) (length m) sizes-ok in
-      mount-known D v (k .good .sees .bytes) (length m) (seedAfter (s .seed)) (F .loaded) rules (z .2) (z .0) (z .1) finds
+      let z = sizes-say (length (w .image)) (length m) (sizes-ok (k .good) m t s same) in
+      mount-known D (powered w m t s) (k .good .sees .bytes) (length m) (seedAfter (s .seed)) (found (k .good) m t s same .loaded) rules (z .2) (z .0) (z .1) (finds (k .good) m t s same)
     where
       rules : D → (b : Base) → Mounted (length m) (view (w .image)) b → (i : ℕ) → ChainOf (w .image) (b .pc) (b .tab i)
       rules d b M i =
@@ -116,7 +78,7 @@ module _ {w : World} (k : Held w) (m : List ℕ) (t : Table) (s : State) (same :
           subst (λ (c : ℕ). ChainOf (w .image) c (b .tab i)) (a .pc) (subst (ChainOf (w .image) (k .base .pc)) (a .tab i) (k .good .rules tt .base i))
 
   pub boot-held : Held (result volume-mount.mount (powered w m t s) .world)
-  boot-held = subst (λ (o : Outcome Done). Held (ended v o .world)) (sym boots-as) (known-held (boot-known (Unit {0})))
+  boot-held = subst (λ (o : Outcome Done). Held (ended (powered w m t s) o .world)) (sym (boots-as (k .good) m t s same)) (known-held (boot-known (Unit {0})))
 
 -- ---- EVERY CALL
 

@@ -1,3 +1,4 @@
+pub mod Boots
 pub mod Reach
 pub mod Partition
 pub mod Demand2

@@ -24,7 +24,8 @@ use Rattle.calls.specs.Calls.{step, FromEither, FromFormat, starts, goes, forma
 use Rattle.reached.specs.Asked.{with-image, AgreesOnPath, afresh, Reads}
 use Rattle.reached.specs.Ledger as ledger
 use Rattle.reached.specs.Ledger.{Ledger, Written, PowersUp}
-use Rattle.reached.proofs.Held.{Held, boot-fine, boot-idle, boot-held, step-held, format-reached}
+use Rattle.reached.proofs.Boots.{boot-fine, boot-idle}
+use Rattle.reached.proofs.Held.{Held, boot-held, step-held, format-reached}
 use Rattle.reached.proofs.Demand2.{mounted-again}
 use Rattle.reached.proofs.Demand3.{held-reads}
 use Rattle.reached.proofs.Written.{written-holds, written-file}
@@ -40,7 +41,7 @@ path-alone w i n img a =
 -- ---- AFTER POWER-UP
 
 pub powers-up : {w : World} {g : Ledger} → Written w g → (m : List ℕ) (t : Table) (s : State) → length m ≡ length (w .map) → PowersUp w g m t s
-powers-up r m t s same = record { mounts = boot-fine (written-holds r .held) m t s same; files = λ i h. written-file (ledger.boots m t s same r) i h }
+powers-up r m t s same = record { mounts = boot-fine (written-holds r .held .good) m t s same; files = λ i h. written-file (ledger.boots m t s same r) i h }
 
 -- such a world is one of demand 2's too
 pub format-either : {w : World} → FromFormat w → FromEither w
@@ -49,7 +50,7 @@ format-either (formats f) = starts (inl f)
 format-either (reaches c r) = goes c (format-either r)
 format-either (boots {w = w} m t s same r) =
     let k = format-reached r in
-    starts (inr (record { from = powered w m t s; bytes = k .good .sees .bytes; done = boot-fine k m t s same; left = refl }))
+    starts (inr (record { from = powered w m t s; bytes = k .good .sees .bytes; done = boot-fine (k .good) m t s same; left = refl }))
 
 -- ---- DEMAND 2 BY READING
 
@@ -68,5 +69,5 @@ module _ {w : World} (k : Held w) (ok : commit w .answer ≡ Fine) (m : List ℕ
       → r .seq + length out ≤ fileAt (w .table) (r .file) .«last_seq» → Reads w (result volume-mount.mount (afresh w m t s) .world) r out
   commit-reads r out i8 some low high =
       let a = mounted-again (k .good) ok m t s same .files (r .file) i8 in
-      let R = held-reads (boot-held later m t s same′) (boot-idle later m t s same′) r out i8 some (omega (arith, a .first-seq)) (omega (arith, a .last-seq)) in
+      let R = held-reads (boot-held later m t s same′) (boot-idle (later .good) m t s same′) r out i8 some (omega (arith, a .first-seq)) (omega (arith, a .last-seq)) in
       record { bytes = R .bytes; gives = R .gives; size = R .size; each = λ j h. a .bytes (r .seq + j) (omega arith) (omega arith) ∙ R .each j h }

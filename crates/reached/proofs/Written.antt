@@ -35,7 +35,8 @@ use Rattle.state.specs.declared.types.FileRecord.{FileRecord}
 use Rattle.state.specs.declared.types.Done.{Done}
 use Rattle.state.specs.declared.types.Done.the-variants.{Done as Fine}
 use Rattle.reached.specs.Asked.{writer, byteAt}
-use Rattle.reached.proofs.Held.{Held, boots-as, boot-fine, boot-known, boot-held, step-held, format-reached}
+use Rattle.reached.proofs.Boots.{boots-as, boot-fine}
+use Rattle.reached.proofs.Held.{Held, boot-known, boot-held, step-held, format-reached}
 use Rattle.reached.proofs.Ledgers.{Notes, write-notes, finish-notes}
 use Rattle.reached.proofs.Noted.{flags-quiet, set-text, rename-notes, commit-notes}
 use Rattle.reached.proofs.Opens.{open-notes}
@@ -187,7 +188,7 @@ format-notes w bs g t = cond-by (Notes (length (w .map)) w g nothing) (sizes (le
 
 boot-tells : {w : World} (k : Held w) (g : Ledger) → Tells (length (w .map)) w g → (m : List ℕ) (t : Table) (s : State) → length m ≡ length (w .map) → Tells (length m) (result volume-mount.mount (powered w m t s) .world) (reverted g)
 unfolding settled noWriter
-boot-tells {w} k g T m t s same = subst (λ (o : Outcome Done). Tells (length m) (ended (powered w m t s) o .world) (reverted g)) (sym (boots-as k m t s same)) tells
+boot-tells {w} k g T m t s same = subst (λ (o : Outcome Done). Tells (length m) (ended (powered w m t s) o .world) (reverted g)) (sym (boots-as (k .good) m t s same)) tells
   where
     M : Known ⊥ (length m) (ended (powered w m t s) (volume-mount.mountedAs (powered w m t s) (length m) (seedAfter (s .seed)) (scan (w .image) (length m)) (good (mount-finds (w .image) (k .good .inv .mounted) (k .good .sees .bytes) .loaded))) .world)
     M = boot-known k m t s same ⊥
@@ -208,7 +209,7 @@ boot-tells {w} k g T m t s same = subst (λ (o : Outcome Done). Tells (length m)
 
 mount-notes : {w : World} (k : Held w) (g : Ledger) → Tells (length (w .map)) w g → Notes (length (w .map)) w g (reverted g) (volume-mount.mount w)
 mount-notes {w} k g t =
-    subst (λ (d : Done). Tells (length (w .map)) (result volume-mount.mount w .world) (onDone d (λ why. g) (reverted g))) (sym (boot-fine k (w .map) (w .table) (w .state) refl))
+    subst (λ (d : Done). Tells (length (w .map)) (result volume-mount.mount w .world) (onDone d (λ why. g) (reverted g))) (sym (boot-fine (k .good) (w .map) (w .table) (w .state) refl))
     (boot-tells k g t (w .map) (w .table) (w .state) refl)
 
 -- ---- EVERY CALL
