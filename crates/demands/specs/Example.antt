@@ -47,7 +47,7 @@ use Rattle.transact.specs.Truncate as transact-Truncate
 
 -- what the worlds are computed by
 abbrev computing : Unit {0}
-unfolding reader-Locate.locate reader-Locate.locateIn seq-Seq.below seq-Seq.multiples seq-Seq.greatest seq-Seq.zeros seq-Seq.index seq-Seq.level seq-Seq.span runs-Runs.part runs-Runs.partOf runs-Runs.splice runs-Runs.placed runs-Runs.le16 runs-Runs.le32 page-Page.pageOf page-Page.begins page-Page.pairReads page-Page.fieldsOf page-Page.headerOf page-Page.gives page-Page.holds page-Page.payloadBy page-Page.payloadOf page-Page.headerBytes page-Page.metaOf page-Page.metaBytes page-Store.stored map-Map.allocOf map-Map.allocated map-Map.steps map-Map.released map-Map.cleared log-Batch.chosen log-Batch.marked log-Batch.batchStores log-Batch.newMetaStores log-Log.goodPair log-Log.batchOf log-Log.batchAt log-Log.entryOf log-Log.logOf log-Log.areaOf log-Log.logEnd log-Log.restErased log-Log.fits log-Log.sound log-Log.put log-Log.replayOf state-Checks.sizes state-Checks.writerOk state-Checks.searchOk state-Checks.isMounted state-Checks.wrongSize state-Checks.checks state-Values.emptyRecord state-Values.emptyTable state-Values.withFile state-Values.inShape state-Values.flagged state-Values.withFlags state-Values.noWriter state-Values.noSearch state-Values.unmounted state-Values.settled state-Values.opened state-Values.closed state-Values.withCursor state-Values.withMeta state-Values.withWriter state-Values.withSearch chain-Links.filled chain-Links.linked chain-Links.linksAfter chain-Links.holder chain-Links.older chain-Steps.isPage chain-Steps.towards chain-Steps.falls chain-Steps.seekRule chain-Steps.backRule chain-Steps.step chain-Steps.lower chain-Steps.go chain-Steps.trace volume-Format.erasures volume-Format.formatted volume-Format.format volume-Mount.claim volume-Mount.load volume-Mount.loadFrom volume-Mount.bestOk volume-Mount.mountFrom volume-Mount.mountBest volume-Mount.mount volume-Mount.mountWith volume-Scan.better volume-Scan.scan writer-Finish.grown writer-Finish.finished writer-Finish.finish writer-Finish.backFrom writer-Finish.discard writer-Open.readyWriter writer-Open.copyWriter writer-Open.openLast writer-Open.openIn writer-Open.openWriter writer-Staging.stagedLinks writer-Staging.stagedHeader writer-Staging.flushed writer-Staging.onPage writer-Staging.filledBy writer-Staging.recordEnded writer-Staging.space writer-Staging.pagesFor writer-Staging.tooFew writer-Write.flush writer-Write.nextPage writer-Write.ready writer-Write.writeFrom writer-Write.writeIn writer-Write.write writer-Write.recordEnd transact-Commit.moved transact-Commit.commitBatch transact-Commit.commit transact-Rename.swapped transact-Rename.rename transact-Rename.flags transact-Truncate.dirtied transact-Truncate.advanced transact-Truncate.emptied transact-Truncate.cut transact-Truncate.unreached transact-Truncate.truncateIn transact-Truncate.truncate step note
+unfolding reader-Locate.locate reader-Locate.locateIn seq-Seq.index seq-Seq.level runs-Runs.part runs-Runs.partOf runs-Runs.splice runs-Runs.placed runs-Runs.le16 runs-Runs.le32 page-Page.pageOf page-Page.begins page-Page.pairReads page-Page.fieldsOf page-Page.headerOf page-Page.headerBytes page-Page.metaOf page-Page.metaBytes page-Store.stored map-Map.allocOf map-Map.released map-Map.cleared log-Batch.chosen log-Batch.batchStores log-Log.goodPair log-Log.batchOf log-Log.batchAt log-Log.entryOf log-Log.logOf log-Log.areaOf log-Log.logEnd log-Log.restErased log-Log.fits log-Log.sound log-Log.put log-Log.replayOf state-Checks.sizes state-Checks.writerOk state-Checks.searchOk state-Checks.isMounted state-Checks.wrongSize state-Checks.checks state-Values.emptyRecord state-Values.emptyTable state-Values.withFile state-Values.inShape state-Values.noWriter state-Values.noSearch state-Values.unmounted state-Values.settled state-Values.opened state-Values.closed state-Values.withCursor state-Values.withWriter chain-Links.filled chain-Links.linked chain-Links.linksAfter chain-Steps.isPage chain-Steps.towards chain-Steps.falls chain-Steps.seekRule chain-Steps.backRule chain-Steps.go chain-Steps.trace volume-Format.erasures volume-Format.formatted volume-Format.format volume-Mount.claim volume-Mount.load volume-Mount.loadFrom volume-Mount.bestOk volume-Mount.mountFrom volume-Mount.mountBest volume-Mount.mount volume-Mount.mountWith volume-Scan.better volume-Scan.scan writer-Finish.grown writer-Finish.finished writer-Finish.finish writer-Open.readyWriter writer-Open.openIn writer-Open.openWriter writer-Staging.stagedLinks writer-Staging.stagedHeader writer-Staging.flushed writer-Staging.onPage writer-Staging.filledBy writer-Staging.space writer-Staging.pagesFor writer-Staging.tooFew writer-Write.flush writer-Write.nextPage writer-Write.ready writer-Write.writeFrom writer-Write.writeIn writer-Write.write transact-Commit.commitBatch transact-Commit.commit transact-Rename.swapped transact-Rename.rename transact-Truncate.dirtied transact-Truncate.unreached transact-Truncate.truncateIn transact-Truncate.truncate step note
 computing = tt
 
 -- ---- FROM A FORMAT
