@@ -6,16 +6,17 @@ use mathlib.Core.Bool.{true, false, cond}
 use native.Mathlib.Decide.{decLe}
 use native.Mathlib.Nat.{add-zero, lt-of-not-le, mod-eq-of-lt, pow-suc, pow-le-pow-right}
 use native.Mathlib.Omega.{arith}
-use lib.ListN.{length, drop, drop-of-length-le}
+use lib.ListN.{length, drop, getD, drop-of-length-le}
 use lib.Seq.{drop-drop}
 use lib.Dec.{leb, ltb, lit<}
 use borrow.Author.Tests.{le-leb, lt-leb, lt-ltb, le-ltb}
 use Rattle.io.specs.Digits.{Fewest}
 use Rattle.io.specs.Digits as io
 use Rattle.runs.specs.Runs.{splice, placed}
-use Rattle.runs.proofs.Laws.{length-splice, placed-in, placed-out}
+use Rattle.runs.proofs.Laws.{tab, tab-drop, length-splice, placed-in, placed-out}
 use Rattle.script.specs.Text.{until, has, beyond, behind, Spot, spot, put, puts}
 use Rattle.script.specs.Say.{digits, decimal, formed}
+use Rattle.script.specs.Show.{lines}
 use Rattle.script.proofs.Laws.{splice-none}
 
 -- ---- texts put behind each other
@@ -40,10 +41,19 @@ pub put-twice : (s : Spot) (t : List ℕ) → put (put s t) [] ≡ put s t
 put-twice s t = put-none (put s t) (put-in s t)
 
 pub puts-more : (s : Spot) (a b : List (List ℕ)) → puts s (a ++ b) ≡ puts (puts s a) b
+unfolding puts
 puts-more s [] b = refl
 puts-more s (t ∷ a) b = puts-more (put s t) a b
 
+-- texts, and others behind them
+pub puts-then : (s t u : Spot) (a b : List (List ℕ)) → t ≡ puts s a → u ≡ puts t b → u ≡ puts s (a ++ b)
+puts-then s t u a b e f = f ∙ rw e (sym (puts-more s a b))
+
 -- ---- numbers
+
+-- nine numbers are a list of nine
+pub nine : (l : List ℕ) → length l ≡ 9 → getD l 0 0 ∷ getD l 1 0 ∷ getD l 2 0 ∷ getD l 3 0 ∷ getD l 4 0 ∷ getD l 5 0 ∷ getD l 6 0 ∷ getD l 7 0 ∷ getD l 8 0 ∷ [] ≡ l
+nine l h = tab-drop l 0 9 (sym h)
 
 -- a power of ten above 1
 ten : (k n : ℕ) → 10 ^ suc k ≤ n → 10 ≤ n
@@ -96,10 +106,24 @@ beyond-from l from n h = let e : from + (n + 1) ≡ from + n + 1 = omega arith i
 
 -- nothing is left of a form where there is no mark
 pub part-none : (s : Spot) (f : List ℕ) (n : ℕ) (ns : List ℕ) → has 37 f ≡ false → puts (put s (until 37 f)) (formed [] ns) ≡ puts s (formed f (n ∷ ns))
-unfolding formed until
+unfolding formed until puts
 part-none s f n [] h = rw h (put-twice s (until 37 f))
 part-none s f n (m ∷ ns) h = rw h (put-twice s (until 37 f))
 
 pub part-some : (s : Spot) (f : List ℕ) (n : ℕ) (ns : List ℕ) → has 37 f ≡ true → puts (put (put s (until 37 f)) (decimal n)) (formed (beyond 37 f) ns) ≡ puts s (formed f (n ∷ ns))
-unfolding formed
+unfolding formed puts
 part-some s f n ns h = rw h
+
+-- ---- lines
+
+lines-more : (f : ℕ → List (List ℕ)) (i n : ℕ) → i < n → lines f i (n - i) ≡ f i ++ lines f (i + 1) (n - (i + 1))
+unfolding lines
+lines-more f i n h = let e : n - i ≡ suc (n - (i + 1)) = omega arith in rw e
+
+-- where one of them is put, the others are left
+pub lines-step : (f : ℕ → List (List ℕ)) (i n : ℕ) (s t x : Spot) → i < n → t ≡ puts s (f i) → puts s (lines f i (n - i)) ≡ x → puts t (lines f (i + 1) (n - (i + 1))) ≡ x
+lines-step f i n s t x h e g = rw e (sym (puts-more s (f i) (lines f (i + 1) (n - (i + 1)))) ∙ rw (← lines-more f i n h) g)
+
+pub lines-end : (f : ℕ → List (List ℕ)) (i n : ℕ) (s : Spot) → n ≤ i → puts s (lines f i (n - i)) ≡ s
+unfolding lines puts
+lines-end f i n s h = let e : n - i ≡ 0 = omega arith in rw e

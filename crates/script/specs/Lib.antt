@@ -1,3 +1,4 @@
 pub mod Text
 pub mod Bytes
 pub mod Say
+pub mod Show

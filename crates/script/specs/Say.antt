@@ -47,7 +47,7 @@ abbrev pub done : Done → List (List ℕ)
 done answer = onDone answer refused ok
 
 -- a word with bytes in hex behind it, or the word alone
-abbrev pub hex : List ℕ → List ℕ → List (List ℕ)
+unfoldable pub hex : List ℕ → List ℕ → List (List ℕ)
 hex word bytes =
     cond (eqb (length bytes) 0) (word ∷ ascii "\n" ∷ [])
     (word ∷ ascii " " ∷ hexDigits bytes ∷ ascii "\n" ∷ [])

@@ -49,7 +49,7 @@ unfoldable pub put : Spot → List ℕ → Spot
 put s t = spot (placed (s .buffer) (s .at) t) (behind (length (s .buffer)) (s .at) (length t))
 
 -- texts put behind each other
-abbrev pub puts : Spot → List (List ℕ) → Spot
+unfoldable pub puts : Spot → List (List ℕ) → Spot
 puts s [] = s
 puts s (t ∷ ts) = puts (put s t) ts
 

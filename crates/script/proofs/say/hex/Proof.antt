@@ -1,5 +1,7 @@
 -- `script::say::hex` meets its contract.
 -- Assumes nothing.
+use Rattle.script.specs.Say.{hex}
+use Rattle.script.specs.Text.{puts}
 use borrow.Author.Tests.{eq-eqb, ne-eqb}
 use borrow.Author.Needs.{needs}
 use Rattle.script.proofs.say.hex.Statement.{statement}
@@ -18,6 +20,7 @@ same-length : tie.Need-same-length
 same-length c = search needs
 
 returns : tie.Need-returns
+unfolding hex puts
 returns c = rw (eq-eqb _ _ (c .before .before .before .before .before .if1 .taken)) (cc)
 
 slice-aggregate-put-2 : tie.Need-slice-aggregate-put-2
@@ -39,6 +42,7 @@ same-length-2 : tie.Need-same-length-2
 same-length-2 c = search needs
 
 returns-2 : tie.Need-returns-2
+unfolding hex puts
 returns-2 c = rw (ne-eqb _ _ (c .before .before .before .before .before .before .before .before .before .before .before .before .before .before .if1 .left)) (cc)
 
 pub hex-spec : {M : Type 1} → statement M
