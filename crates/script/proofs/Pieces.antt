@@ -1,20 +1,19 @@
 -- What answers rest on: texts put behind each other, a number's digits, and the parts of a form. Assumes nothing.
 use Prim.Native.Nat.{ℕ, zero, suc, _+_, _-_, _*_, _/_, _%_, _^_, _≤_, _<_}
-use mathlib.Core.Path.{_≡_, refl, sym, ap, _∙_}
+use mathlib.Core.Path.{_≡_, refl, sym, _∙_}
 use mathlib.Core.List.{List, [], _∷_, _++_}
-use mathlib.Core.Bool.{true, false, cond}
+use mathlib.Core.Bool.{true, false}
 use native.Mathlib.Decide.{decLe}
 use native.Mathlib.Nat.{add-zero, lt-of-not-le, mod-eq-of-lt, pow-suc, pow-le-pow-right}
 use native.Mathlib.Omega.{arith}
 use lib.ListN.{length, drop, getD, drop-of-length-le}
 use lib.Seq.{drop-drop}
-use lib.Dec.{leb, ltb, lit<}
+use lib.Dec.{lit<}
 use borrow.Author.Tests.{le-leb, lt-leb, lt-ltb, le-ltb}
 use Rattle.io.specs.Digits.{Fewest}
 use Rattle.io.specs.Digits as io
-use Rattle.runs.specs.Runs.{splice, placed}
-use Rattle.runs.proofs.Laws.{tab, tab-drop, length-splice, placed-in, placed-out}
-use Rattle.script.specs.Text.{until, has, beyond, behind, Spot, spot, put, puts}
+use Rattle.runs.proofs.Laws.{tab-drop, length-splice, placed-in, placed-out}
+use Rattle.script.specs.Text.{until, has, beyond, behind, Spot, put, puts}
 use Rattle.script.specs.Say.{digits, decimal, formed}
 use Rattle.script.specs.Show.{lines}
 use Rattle.script.proofs.Laws.{splice-none}

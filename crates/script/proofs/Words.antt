@@ -1,16 +1,16 @@
 -- What a line's command rests on: its words, the numbers that they are, and words in hex. Assumes nothing.
-use Prim.Native.Nat.{ℕ, zero, suc, _+_, _-_, _*_, _/_, _%_, _≤_, _<_}
+use Prim.Native.Nat.{ℕ, suc, _+_, _-_, _≤_, _<_}
 use mathlib.Core.Path.{_≡_, refl, sym, ap, subst, _∙_}
 use mathlib.Core.List.{List, [], _∷_}
-use mathlib.Core.Bool.{Bool, true, false, cond, _&&_, not}
+use mathlib.Core.Bool.{Bool, true, false, cond, _&&_}
 use native.Mathlib.Decide.{decLe}
 use native.Mathlib.Nat.{lt-of-not-le}
 use native.Mathlib.Omega.{arith}
-use lib.ListN.{length, drop, length-drop, drop-of-length-le}
+use lib.ListN.{length, drop, length-drop}
 use lib.Seq.{drop-drop}
-use lib.Dec.{ltb, leb, eqb}
+use lib.Dec.{ltb, eqb}
 use borrow.Author.Tests.{lt-ltb, le-ltb, ltb-true, ltb-false, eqb-true}
-use Rattle.runs.proofs.Laws.{cond-same, cond-by}
+use Rattle.runs.proofs.Laws.{cond-same}
 use Rattle.script.specs.declared.bytes.Number.{Number}
 use Rattle.script.specs.declared.bytes.Number.the-variants as N
 use Rattle.script.specs.declared.bytes.Run.{Run}
@@ -24,7 +24,7 @@ use Rattle.script.specs.declared.command.Step.{Step}
 use Rattle.script.specs.declared.command.Step.the-variants as S
 use Rattle.script.specs.Text.{until, has, ascii, same}
 use Rattle.script.specs.Bytes.{numberOf, hexValue, allHex, isRun, runOf, decoded}
-use Rattle.script.specs.Command.{glued, words, wordsFrom, inFront, numbers, stepOn, stepAt, pick, shownBy, thePage, pageBy, showOf, told, Ran, ran, hexOf, onRun, carried, written, poking, poked}
+use Rattle.script.specs.Command.{words, wordsFrom, inFront, numbers, stepOn, stepAt, pick, pageBy, showOf, told, Ran, ran, hexOf, onRun, carried, written, poking, poked}
 
 -- a test, either way
 by-test {ℓ} : {X : Type ℓ} (t : Bool) → (t ≡ true → X) → (t ≡ false → X) → X

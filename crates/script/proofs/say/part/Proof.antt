@@ -4,7 +4,7 @@ use Rattle.script.proofs.Pieces.{part-none, part-some, drop-all, beyond
 use Rattle.script.specs.Text.{until, has, beyond, spot}
 use borrow.Author.Tests.{lt-ltb, le-ltb}
 use lib.ListN.{length, drop, drop-of-length-le, length-drop}
-use mathlib.Core.Bool.{true, false}
+use mathlib.Core.Bool.{false}
 use mathlib.Core.List.{[]}
 use mathlib.Core.Path.{_≡_, sym, ap}
 use native.Mathlib.Omega.{arith}

@@ -1,11 +1,7 @@
 -- `script::text::put` meets its contract.
 -- Assumes nothing.
-use Rattle.script.specs.Text.{behind, spot, put}
-use mathlib.Core.List.{List}
+use Rattle.script.specs.Text.{put}
 use borrow.Author.Needs.{needs}
-use lib.ListN.{length}
-use mathlib.Core.Path.{ap, _∙_}
-use Prim.Native.Nat.{ℕ}
 use Rattle.script.proofs.text.put.Statement.{statement}
 use Rattle.script.proofs.text.put.Tie as tie
 
