@@ -52,6 +52,8 @@ int main(void) {
     printf("read: code %u, up to %u: %s\n", (unsigned)end.code, (unsigned)end.seq, back);
     mv_seq_reply past = mv_read(image, sizeof image, map, sizeof map, table, state, 3, end.seq, (uint8_t *)back, 1);
     printf("read at the end: code %u\n", (unsigned)past.code);
+    mv_seq_reply stays = mv_skip(image, sizeof image, map, sizeof map, table, state, 3, last, n + 1);
+    printf("skip past the end: code %u, still at %u\n", (unsigned)stays.code, (unsigned)stays.seq);
     mv_search_reply found = mv_search(image, sizeof image, map, sizeof map, table, &state, 3);
     printf("search: code %u, %s %u\n", (unsigned)found.code, found.offer ? "offer" : "end", (unsigned)found.seq);
     found = mv_turn(image, sizeof image, map, sizeof map, &state, true);

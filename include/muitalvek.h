@@ -115,7 +115,7 @@ typedef struct {
     uint32_t headers;
 } mv_locate_reply;
 
-/* the number where a reader then stands */
+/* the number where a reader then stands: where it stood, if refused */
 typedef struct {
     uint32_t code;
     uint32_t seq;
@@ -144,10 +144,10 @@ mv_locate_reply mv_locate(const uint8_t *image, size_t image_len, const uint8_t 
 /* fills out with the bytes from number seq on; the reply's seq is behind them */
 mv_seq_reply mv_read(const uint8_t *image, size_t image_len, const uint8_t *map, size_t map_len, mv_table table,
                      mv_state state, uint8_t file, uint32_t seq, uint8_t *out, size_t out_len);
-/* the number len bytes behind seq */
+/* the number len bytes behind seq; seq itself where refused */
 mv_seq_reply mv_skip(const uint8_t *image, size_t image_len, const uint8_t *map, size_t map_len, mv_table table,
                      mv_state state, uint8_t file, uint32_t seq, size_t len);
-/* the number offs bytes behind the file's first one */
+/* the number offs bytes behind the file's first one, which it is where refused (0 for a file above 7) */
 mv_seq_reply mv_seek(const uint8_t *image, size_t image_len, const uint8_t *map, size_t map_len, mv_table table,
                      mv_state state, uint8_t file, size_t offs);
 

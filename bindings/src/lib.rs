@@ -100,13 +100,13 @@ impl<'a> Volume<'a> {
         Refusal::check(r.code).map(|_| r.seq)
     }
 
-    /// The number `len` bytes behind another.
+    /// The number `len` bytes behind another; where refused, the reader stays there.
     pub fn skip(&self, file: u8, seq: u32, len: usize) -> Result<u32, Refusal> {
         let r = ask!(self.mv_skip(file, seq, len));
         Refusal::check(r.code).map(|_| r.seq)
     }
 
-    /// The number `offs` bytes behind the file's first one.
+    /// The number `offs` bytes behind the file's first one, where a new reader stands.
     pub fn seek(&self, file: u8, offs: usize) -> Result<u32, Refusal> {
         let r = ask!(self.mv_seek(file, offs));
         Refusal::check(r.code).map(|_| r.seq)

@@ -2,7 +2,7 @@
 use Rattle.seq.specs.Ids.{none}
 use Rattle.chain.specs.Files.{lastOf}
 use Rattle.chain.specs.Steps.{at, damaged}
-use Rattle.transact.specs.Truncate.{dirtied, advanced, emptied, newFirst, cut, others, unreached, heldAll, changedFile, truncatedBy, truncateIn, truncate}
+use Rattle.transact.specs.Truncate.{advanced, emptied, newFirst, cut, others, unreached, heldAll, changedFile, truncatedBy, truncateIn, truncate}
 use Rattle.owners.specs.State.{firstOf, endOf}
 use Rattle.state.specs.World.{World}
 use Prim.Native.Nat.{ℕ, _+_, _≤_, _<_}
@@ -89,26 +89,27 @@ gone-none : {s : Store} {pc : ℕ} {f : File} {l : List ℕ} → FileOk s pc f l
 gone-none (Rattle.owners.specs.Store.empty) e = refl
 gone-none (Rattle.owners.specs.Store.full a h b c d w) e = clash cc
 
+emptied-ok : (img : List ℕ) → RecordOk img emptied
+unfolding emptied
+emptied-ok img = record { empty = λ z. record { header = refl; first = refl; last = refl; flags = refl }; stands = λ n. absurd (n refl); byte = omega arith }
+
 module _ {D : Type 0} {N : ℕ} {w : World} {b : Base} {own : ℕ → Owner} (g : Good D N w b own) where
   abbrev rec : ℕ → FileRecord
   rec i = recAt (w .table) i
 
   -- an empty file
-  nothing-keeps : (i : ℕ) → w .state .writer .active ≡ false → i ≤ 7 → rec i .«last_page» ≡ none → Keeps D N w (changedFile w i (w .map) (dirtied (rec i)))
-  unfolding dirtied
+  nothing-keeps : (i : ℕ) → w .state .writer .active ≡ false → i ≤ 7 → rec i .«last_page» ≡ none → Keeps D N w (changedFile w i (w .map) emptied)
+  unfolding emptied
   nothing-keeps i off i7 e =
       let t = w .table in
-      let f = rec i in
       let l = in-table g i7 in
-      let k = g .sees .recs i in
-      let z : asFile f ≡ gone = file-gone f e in
-      table-keeps g off (withFile t i (dirtied f)) (w .map) own (with-eight t i (dirtied f) l ∙ g .sees .eight)
-      (with-each t i (dirtied f) l (RecordOk (w .image))
-      (record { empty = λ z. record { header = k .empty z .header; first = k .empty z .first; last = k .empty z .last; flags = k .empty z .flags }; stands = k .stands; byte = k .byte }) (λ j n. g .sees .recs j))
+      let z : asFile (rec i) ≡ gone = file-gone (rec i) e in
+      table-keeps g off (withFile t i emptied) (w .map) own (with-eight t i emptied l ∙ g .sees .eight)
+      (with-each t i emptied l (RecordOk (w .image)) (emptied-ok (w .image)) (λ j n. g .sees .recs j))
       (g .sees .owners)
-      (inv-is (now-is (with-files t i (dirtied f) l (setFlags (asFile f) 0) (file-gone (dirtied f) e ∙ sym (ap (λ (y : File). setFlags y 0) z))) (λ x. refl) (with-marks t i (dirtied f) l refl) refl refl)
+      (inv-is (now-is (with-files t i emptied l (setFlags (asFile (rec i)) 0) (file-gone emptied refl ∙ sym (ap (λ (y : File). setFlags y 0) z))) (λ x. refl) (with-marks t i emptied l refl) refl refl)
       (inv-flags i 0 (g .inv) (shut-now g off) (omega arith)))
-      (λ d. with-each t i (dirtied f) l (λ (r : FileRecord). ChainOf (w .image) (b .pc) (asFile r)) (subst (ChainOf (w .image) (b .pc)) (sym (file-gone (dirtied f) e)) tt) (λ j n. g .rules d .now j))
+      (λ d. with-each t i emptied l (λ (r : FileRecord). ChainOf (w .image) (b .pc) (asFile r)) (subst (ChainOf (w .image) (b .pc)) (sym (file-gone emptied refl)) tt) (λ j n. g .rules d .now j))
 
   -- a file with bytes
   module _ (i : ℕ) (off : w .state .writer .active ≡ false) (i7 : i ≤ 7) (some : rec i .«last_page» ≡ none → ⊥) (bytes : ℕ) where
@@ -184,7 +185,7 @@ module _ {D : Type 0} {N : ℕ} {w : World} {b : Base} {own : ℕ → Owner} (g 
     unfolding cut advanced emptied
     cut-ok =
         cond-by (RecordOk (w .image)) (eqb (newFirst (rec i) bytes) (rec i .«last_seq»)) _ _
-        (λ e. record { empty = λ z. record { header = refl; first = refl; last = refl; flags = refl }; stands = λ n. absurd (n refl); byte = omega arith })
+        (λ e. emptied-ok (w .image))
         (λ e. record { empty = λ z. absurd (some z); stands = λ n. stands; byte = g .sees .recs i .byte })
 
     cut-keeps : Keeps D N w (changedFile w i (heldAll (w .map) (unreached (w .image) (w .state .«page_count») (rec i) (newFirst (rec i) bytes))) (cut (rec i) (newFirst (rec i) bytes)))

@@ -6,7 +6,7 @@ use mathlib.Core.List.{List, []}
 use native.Mathlib.Omega.{arith}
 use borrow.Author.Tests.{ltb-false}
 use lib.Dec.{eqb, leb, ltb}
-use lib.ListN.{length, take, replicate, length-replicate}
+use lib.ListN.{length, take}
 use Rattle.log.specs.declared.LogEnd.{LogEnd}
 use Rattle.log.specs.declared.LogEnd.the-variants.{At, Damaged as NoLog}
 use Rattle.log.specs.Log.{logEnd, restErased, fits}
@@ -146,9 +146,9 @@ read-says w r out =
     go false false false false true R.none = refl
     go false false false false true (R.some l) = refl
 
-first-read : (r : Reader) (n : ℕ) (w : World) → answer (read r n) w ≡ first (conditions (read r n) w)
+first-read : (r : Reader) (out : List ℕ) (w : World) → answer (read r out) w ≡ first (conditions (read r out) w)
 unfolding answer conditions
-first-read r n w = read-says w r (replicate n 0) ∙ ap (readSays w r) (length-replicate {A = ℕ} n 0)
+first-read r out w = read-says w r out
 
 first-skip : (r : Reader) (n : ℕ) (w : World) → answer (skip r n) w ≡ first (conditions (skip r n) w)
 unfolding answer conditions K.skip K.skipIn K.landed
@@ -324,7 +324,7 @@ first-truncate file n w =
     f = recordAt w file
 
     go : (z e s : Bool) (x : Sought)
-        → cond z (kept w Fine) (cond e (T.changedFile w file (w .map) (T.dirtied f)) (cond s (T.truncatedBy w file f (T.newFirst f n) x) (refuse w Damaged))) .answer
+        → cond z (kept w Fine) (cond e (T.changedFile w file (w .map) T.emptied) (cond s (T.truncatedBy w file f (T.newFirst f n) x) (refuse w Damaged))) .answer
         ≡ cond (not z && not e && (not s || pathBad x)) (Refused Damaged) Fine
     go true e s x = refl
     go false true s x = refl
@@ -391,7 +391,7 @@ pub first-refusal : (c : Call) (w : World) → answer c w ≡ first (conditions 
 first-refusal format w = first-format w
 first-refusal mount w = first-mount w
 first-refusal (locate file seq) w = first-locate file seq w
-first-refusal (read r n) w = first-read r n w
+first-refusal (read r out) w = first-read r out w
 first-refusal (skip r n) w = first-skip r n w
 first-refusal (seek file n) w = first-seek file n w
 first-refusal (search file) w = first-search file w

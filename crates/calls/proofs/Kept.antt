@@ -1,13 +1,11 @@
--- Demand 1 over all calls at once: a refused call leaves image, map, table and state as they were, but for a Damaged mount; and what
--- document 01's two exceptions leave. Assumes nothing.
+-- Demand 1 over all calls at once: what a refusal leaves of world and output. Assumes nothing.
 use Prim.Native.Nat.{ℕ, _+_}
 use mathlib.Core.Path.{_≡_, refl, sym, ap, _∙_}
 use mathlib.Core.Bool.{Bool, true, false, cond, _&&_, not}
 use lib.Dec.{eqb, leb, ltb}
 use mathlib.Core.List.{List, []}
-use mathlib.Core.Logic.{_⊎_, inl, inr}
 use native.Mathlib.Omega.{arith}
-use lib.ListN.{length, replicate}
+use lib.ListN.{length}
 use Rattle.log.specs.declared.LogEnd.{LogEnd}
 use Rattle.log.specs.declared.LogEnd.the-variants.{At, Damaged as NoLog}
 use Rattle.log.specs.Log.{logEnd, restErased, fits}
@@ -19,12 +17,12 @@ use Rattle.map.specs.Map.{allocOf}
 use Rattle.chain.specs.Files.{lastOf}
 use Rattle.chain.specs.Steps.{readAt, walk, Sought, damaged, at, Stepped, stays, reaches, breaks}
 use Rattle.state.specs.declared.types.Refusal.{Refusal}
-use Rattle.state.specs.declared.types.Refusal.the-variants.{BadSize, BadFile, Damaged, NoRoom, SeqEnd, NoSearch, Gone, Eof, Short}
+use Rattle.state.specs.declared.types.Refusal.the-variants.{BadSize, NotMounted, Busy, BadFile, Damaged, NoRoom, SeqEnd, NoSearch, Gone, Eof, Short}
 use Rattle.state.specs.declared.types.Done.{Done}
 use Rattle.state.specs.declared.types.Done.the-variants.{Done as Fine, Refused}
 use Rattle.state.specs.Refusals.{onDone}
-use Rattle.state.specs.Checks.{sizes, checks}
-use Rattle.state.specs.Values.{fileAt, isEmpty, inShape, withFlags, noSearch, unmounted}
+use Rattle.state.specs.Checks.{sizes, isMounted, wrongSize, checks}
+use Rattle.state.specs.Values.{fileAt, isEmpty, inShape, withFlags, noSearch}
 use Rattle.state.specs.World.{World, Outcome, ended, kept, refuse, checked}
 use Rattle.volume.specs.Format as VF
 use Rattle.volume.specs.Mount as MM
@@ -43,11 +41,13 @@ use Rattle.search.specs.Search as Q
 use Rattle.search.specs.declared.search.Stand.{Stand}
 use Rattle.search.specs.declared.Answer.the-variants as A
 use Rattle.state.specs.declared.types.Search.{Search}
+use Rattle.state.specs.declared.types.State.{State}
 use Rattle.state.specs.declared.types.FileRecord.{FileRecord}
 use Rattle.chain.specs.declared.PagePointer.{PagePointer}
 use Rattle.log.specs.declared.Entry.{Entry}
 use Rattle.seq.specs.Seed.{seedAfter}
 use Rattle.calls.specs.Calls.{Call, format, mount, locate, read, skip, seek, search, left, right, open-writer, write, record-end, finish, discard, truncate, rename, flags, commit, soughtDone, answer, step}
+use Rattle.calls.specs.Order.{mountLeaves, outputLeft}
 
 -- ---- outcomes that leave the world where they refuse
 
@@ -70,6 +70,22 @@ module _ {A : Type 0} (f : A → Done) (w : World) where
       by : (d : Done) → Keeps f w (onDone d (λ why. kept w (r why)) x)
       by Fine = h
       by (Refused why) = keeps-kept (r why)
+
+-- checks 1 to 4 never answer Damaged
+abbrev Early : Done → Type 0
+Early Fine = Unit {0}
+Early (Refused why) = (out : List ℕ) → outputLeft why out ≡ out
+
+passed : (image map : ℕ) (s : State) (busy : Bool) (file : ℕ) → Early (checks image map s busy file)
+unfolding checks
+passed image map s busy file = go (wrongSize image map (isMounted s) (s .pages)) (isMounted s) busy (ltb 7 file)
+  where
+    go : (a m b f : Bool) → Early (cond a (Refused BadSize) (cond m (cond b (Refused Busy) (cond f (Refused BadFile) Fine)) (Refused NotMounted)))
+    go true m b f = λ out. refl
+    go false false b f = λ out. refl
+    go false true true f = λ out. refl
+    go false true false true = λ out. refl
+    go false true false false = tt
 
 -- ---- each call's outcome
 
@@ -176,9 +192,9 @@ module _ (w : World) where
       f = fileAt (w .table) i
 
       go : (z e s : Bool) (x : Sought)
-          → Keeps same w (cond z (kept w Fine) (cond e (T.changedFile w i (w .map) (T.dirtied f)) (cond s (T.truncatedBy w i f (T.newFirst f n) x) (refuse w Damaged))))
+          → Keeps same w (cond z (kept w Fine) (cond e (T.changedFile w i (w .map) T.emptied) (cond s (T.truncatedBy w i f (T.newFirst f n) x) (refuse w Damaged))))
       go true e s x = ok (kept w Fine) refl
-      go false true s x = ok (T.changedFile w i (w .map) (T.dirtied f)) refl
+      go false true s x = ok (T.changedFile w i (w .map) T.emptied) refl
       go false false false x = no Damaged
       go false false true damaged = no Damaged
       go false false true (at q) = ok (T.truncatedBy w i f (T.newFirst f n) (at q)) refl
@@ -253,74 +269,73 @@ module _ (w : World) where
 
 -- ---- all at once
 
--- what a Damaged mount leaves: the state unmounted with its seed, the map all zero; image and table as they were
-abbrev pub afterDamaged : World → World
-afterDamaged w = record { image = w .image; map = replicate (length (w .map)) 0; table = w .table; state = unmounted (w .state .seed) }
-
-mount-keeps : (w : World) (why : Refusal) → answer mount w ≡ Refused why → (step mount w ≡ w) ⊎ ((why ≡ Damaged) × (step mount w ≡ afterDamaged w))
+-- a refused mount
+pub mount-leaves : (w : World) (why : Refusal) → answer mount w ≡ Refused why → step mount w ≡ mountLeaves why w
 unfolding answer step MM.mount MM.mountWith MM.mountBest
-mount-keeps w why = go (sizes (length (w .image)) (length (w .map))) (MM.mountFrom (w .image) (length (w .map)) (scan (w .image) (length (w .map))))
+mount-leaves w why = go (sizes (length (w .image)) (length (w .map))) (MM.mountFrom (w .image) (length (w .map)) (scan (w .image) (length (w .map))))
   where
     out : Bool → MM.Maybe MM.LoadedAll → Outcome Done
     out b x = cond b (MM.mountedAs w (length (w .map)) (seedAfter (w .state .seed)) (scan (w .image) (length (w .map))) x) (refuse w BadSize)
 
-    go : (b : Bool) (x : MM.Maybe MM.LoadedAll) → out b x .answer ≡ Refused why
-        → (ended w (out b x) .world ≡ w) ⊎ ((why ≡ Damaged) × (ended w (out b x) .world ≡ afterDamaged w))
-    go false x e = inl refl
-    go true MM.bad e = inr (cc, refl)
+    go : (b : Bool) (x : MM.Maybe MM.LoadedAll) → out b x .answer ≡ Refused why → ended w (out b x) .world ≡ mountLeaves why w
+    go false x e = let q : BadSize ≡ why = cc in ap (λ (k : Refusal). mountLeaves k w) q
+    go true MM.bad e = let q : Damaged ≡ why = cc in ap (λ (k : Refusal). mountLeaves k w) q
     go true (MM.good x) e = never why e
 
--- a refused call leaves the world, but for a Damaged mount
-pub refused-keeps : (c : Call) (w : World) (why : Refusal) → answer c w ≡ Refused why
-    → (step c w ≡ w) ⊎ ((c ≡ mount) × (why ≡ Damaged) × (step c w ≡ afterDamaged w))
+-- any other call that is refused
+pub refused-leaves : (c : Call) (w : World) (why : Refusal) → ¬ (c ≡ mount) → answer c w ≡ Refused why → step c w ≡ w
 unfolding answer step
-refused-keeps format w why e = inl (format-keeps w .keeps why e)
-refused-keeps mount w why e = elim (mount-keeps w why e) [ inl h ↦ inl h | inr h ↦ inr (refl, h .0, h .1) ]
-refused-keeps (locate file seq) w why e = inl refl
-refused-keeps (read r n) w why e = inl refl
-refused-keeps (skip r n) w why e = inl refl
-refused-keeps (seek file n) w why e = inl refl
-refused-keeps (search file) w why e = inl (start-keeps w file .keeps why e)
-refused-keeps left w why e = inl (answered-keeps w Q.leftOf .keeps why e)
-refused-keeps right w why e = inl (answered-keeps w Q.rightOf .keeps why e)
-refused-keeps (open-writer file) w why e = inl (open-keeps w file .keeps why e)
-refused-keeps (write l k) w why e = inl (write-keeps w l .keeps why e)
-refused-keeps record-end w why e = inl (end-keeps w .keeps why e)
-refused-keeps finish w why e = inl (finish-keeps w .keeps why e)
-refused-keeps discard w why e = inl (discard-keeps w .keeps why e)
-refused-keeps (truncate file n) w why e = inl (truncate-keeps w file n .keeps why e)
-refused-keeps (rename i j) w why e = inl (rename-keeps w i j .keeps why e)
-refused-keeps (flags file n k) w why e = inl (flags-keeps w file n .keeps why e)
-refused-keeps commit w why e = inl (commit-keeps w .keeps why e)
+refused-leaves format w why n e = format-keeps w .keeps why e
+refused-leaves mount w why n e = absurd (n refl)
+refused-leaves (locate file seq) w why n e = refl
+refused-leaves (read r out) w why n e = refl
+refused-leaves (skip r k) w why n e = refl
+refused-leaves (seek file k) w why n e = refl
+refused-leaves (search file) w why n e = start-keeps w file .keeps why e
+refused-leaves left w why n e = answered-keeps w Q.leftOf .keeps why e
+refused-leaves right w why n e = answered-keeps w Q.rightOf .keeps why e
+refused-leaves (open-writer file) w why n e = open-keeps w file .keeps why e
+refused-leaves (write l k) w why n e = write-keeps w l .keeps why e
+refused-leaves record-end w why n e = end-keeps w .keeps why e
+refused-leaves finish w why n e = finish-keeps w .keeps why e
+refused-leaves discard w why n e = discard-keeps w .keeps why e
+refused-leaves (truncate file k) w why n e = truncate-keeps w file k .keeps why e
+refused-leaves (rename i j) w why n e = rename-keeps w i j .keeps why e
+refused-leaves (flags file k l) w why n e = flags-keeps w file k .keeps why e
+refused-leaves commit w why n e = commit-keeps w .keeps why e
 
-abbrev Left : Reader → List ℕ → Refusal → R.AfterRead → Type 0
-Left r out why x = x .answer ≡ Refused why → (x ≡ R.readKept r out (Refused why)) ⊎ ((why ≡ Damaged) × (x ≡ R.readBy r out R.none))
+abbrev ReadLeaves : Reader → List ℕ → Refusal → R.AfterRead → Type 0
+ReadLeaves r out why x = x .answer ≡ Refused why → x ≡ R.readKept r (outputLeft why out) (Refused why)
 
--- a refused read leaves reader and output, but for a Damaged one, which leaves the whole output zero
-pub read-keeps : (w : World) (r : Reader) (out : List ℕ) (why : Refusal) → R.read w r out .answer ≡ Refused why
-    → (R.read w r out ≡ R.readKept r out (Refused why)) ⊎ ((why ≡ Damaged) × (R.read w r out ≡ R.readBy r out R.none))
+-- what a refused read leaves
+pub read-leaves : (w : World) (r : Reader) (out : List ℕ) (why : Refusal) → R.read w r out .answer ≡ Refused why → R.read w r out ≡ R.readKept r (outputLeft why out) (Refused why)
 unfolding R.read R.readIn
-read-keeps w r out why = by (checks (length (w .image)) (length (w .map)) (w .state) (w .state .transaction) (r .file))
+read-leaves w r out why = by (checks (length (w .image)) (length (w .map)) (w .state) (w .state .transaction) (r .file)) (passed (length (w .image)) (length (w .map)) (w .state) (w .state .transaction) (r .file))
   where
     f : FileRecord
     f = fileAt (w .table) (r .file)
 
-    kept-so : (k : Refusal) → Left r out why (R.readKept r out (Refused k))
-    kept-so k e = let q : k ≡ why = cc in inl (ap (λ (x : Refusal). R.readKept r out (Refused x)) q)
+    kept-so : (k : Refusal) → outputLeft k out ≡ out → ReadLeaves r out why (R.readKept r out (Refused k))
+    kept-so k h e =
+        let q : k ≡ why = cc in
+        ap (λ (x : List ℕ). R.readKept r x (Refused k)) (sym h) ∙ ap (λ (x : Refusal). R.readKept r (outputLeft x out) (Refused x)) q
 
-    go : (z g e s h : Bool) (x : R.Bytes) → Left r out why
+    broken : ReadLeaves r out why (R.readBy r out R.none)
+    broken e = let q : Damaged ≡ why = cc in ap (λ (x : Refusal). R.readKept r (outputLeft x out) (Refused x)) q
+
+    go : (z g e s h : Bool) (x : R.Bytes) → ReadLeaves r out why
         (cond z (R.readKept r out Fine) (cond g (R.readKept r out (Refused Gone)) (cond e (R.readKept r out (Refused Eof))
         (cond s (R.readKept r out (Refused Short)) (cond h (R.readBy r out x) (R.readBy r out R.none))))))
     go true g e s h x q = never why q
-    go false true e s h x q = kept-so Gone q
-    go false false true s h x q = kept-so Eof q
-    go false false false true h x q = kept-so Short q
-    go false false false false false x q = inr (cc, refl)
-    go false false false false true R.none q = inr (cc, refl)
+    go false true e s h x q = kept-so Gone refl q
+    go false false true s h x q = kept-so Eof refl q
+    go false false false true h x q = kept-so Short refl q
+    go false false false false false x q = broken q
+    go false false false false true R.none q = broken q
     go false false false false true (R.some l) q = never why q
 
-    by : (d : Done) → Left r out why (onDone d (λ k. R.readKept r out (Refused k)) (R.readIn (w .image) (w .state .«page_count») f r out))
-    by Fine =
+    by : (d : Done) → Early d → ReadLeaves r out why (onDone d (λ k. R.readKept r out (Refused k)) (R.readIn (w .image) (w .state .«page_count») f r out))
+    by Fine h =
         go (eqb (length out) 0) (ltb (r .seq) (f .«first_seq»)) (leb (f .«last_seq») (r .seq)) (ltb (f .«last_seq») (r .seq + length out)) (inShape (w .state .«page_count») f)
         (R.bytesFrom (w .image) (w .state .«page_count») f (length out) (r .seq) (length out))
-    by (Refused k) = kept-so k
+    by (Refused k) h = kept-so k (h out)

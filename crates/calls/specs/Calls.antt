@@ -4,7 +4,9 @@ use mathlib.Core.Path.{_≡_}
 use mathlib.Core.List.{List}
 use mathlib.Core.Logic.{_⊎_}
 use Rattle.page.specs.Page.{Bytes}
-use lib.ListN.{replicate}
+use lib.ListN.{length}
+use Rattle.state.specs.declared.types.Table.{Table}
+use Rattle.state.specs.declared.types.State.{State}
 use Rattle.state.specs.declared.types.Done.{Done}
 use Rattle.state.specs.declared.types.Done.the-variants.{Done as Fine, Refused}
 use Rattle.state.specs.World.{World, result}
@@ -32,12 +34,12 @@ use Rattle.search.specs.declared.Answer.the-variants.{Offer as Offers, End}
 use Rattle.search.specs.declared.Answer.the-variants as A
 use Rattle.search.specs.Search as search-calls
 
--- a call with its arguments: bytes and flags are bytes, any other number is any
+-- a call with its arguments: bytes and flags are bytes, any other number is any; of a read, the output that is lent, with what stands in it
 pub data Call : Type 0 where
   format : Call
   mount : Call
   locate : ℕ → ℕ → Call
-  read : Reader → ℕ → Call
+  read : Reader → List ℕ → Call
   skip : Reader → ℕ → Call
   seek : ℕ → ℕ → Call
   search : ℕ → Call
@@ -58,7 +60,7 @@ unfoldable pub step : Call → World → World
 step format w = result volume-format.format w .world
 step mount w = result volume-mount.mount w .world
 step (locate file seq) w = w
-step (read r n) w = w
+step (read r out) w = w
 step (skip r n) w = w
 step (seek file n) w = w
 step (search file) w = result (λ v. search-calls.start v file) w .world
@@ -93,7 +95,7 @@ unfoldable pub answer : Call → World → Done
 answer format w = volume-format.format w .answer
 answer mount w = volume-mount.mount w .answer
 answer (locate file seq) w = locatedDone (reader-locate.locate w file seq)
-answer (read r n) w = reader-read.read w r (replicate n 0) .answer
+answer (read r out) w = reader-read.read w r out .answer
 answer (skip r n) w = skippedDone (reader-skip.skip w r n)
 answer (seek file n) w = skippedDone (reader-skip.seekOffset w file n)
 answer (search file) w = soughtDone (search-calls.start w file .answer)
@@ -129,9 +131,17 @@ pub data Reach (Start : World → Type 0) : World → Type 0 where
   starts : {w : World} → Start w → Reach Start w
   goes : {w : World} (c : Call) → Reach Start w → Reach Start (step c w)
 
--- demand 3's worlds, and demand 2's
-abbrev pub FromFormat : World → Type 0
-FromFormat = Reach Formatted
-
+-- demand 2's worlds
 abbrev pub FromEither : World → Type 0
 FromEither = Reach (λ w. Formatted w ⊎ Mounted w)
+
+-- power is lost between two calls and comes back: the image is as it was; map, table and state are any
+abbrev pub powered : World → List ℕ → Table → State → World
+powered w m t s = record { image = w .image; map = m; table = t; state = s }
+
+-- demand 3's worlds: what any calls, refused ones too, reach from a format; and, as often as power is lost and comes back, what the mount
+-- after it leaves, with any map of that length, any table and any state, and what calls reach from there
+pub data FromFormat : World → Type 0 where
+  formats : {w : World} → Formatted w → FromFormat w
+  reaches : {w : World} (c : Call) → FromFormat w → FromFormat (step c w)
+  boots : {w : World} (m : List ℕ) (t : Table) (s : State) → length m ≡ length (w .map) → FromFormat w → FromFormat (step mount (powered w m t s))

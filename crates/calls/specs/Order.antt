@@ -1,10 +1,11 @@
--- When each call gives each refusal, by document 01, "Refusal numbers", each condition said by itself; and the order in which they
--- are checked. Assumes nothing: these are definitions.
+-- When each call gives each refusal, by document 01, "Refusal numbers": a condition for each, and the order in which they are checked. The
+-- answer is the first in that order whose condition holds, so a condition need not shut out those before it. Last, what a refusal leaves.
+-- Assumes nothing: these are definitions.
 use Prim.Native.Nat.{ℕ, _+_}
 use mathlib.Core.Bool.{Bool, true, false, cond, _&&_, _||_, not}
 use mathlib.Core.List.{List, [], _∷_}
 use lib.Dec.{eqb, leb, ltb}
-use lib.ListN.{length}
+use lib.ListN.{length, replicate}
 use Rattle.seq.specs.Seq.{limit}
 use Rattle.log.specs.declared.LogEnd.{LogEnd}
 use Rattle.log.specs.declared.LogEnd.the-variants.{At, Damaged as NoLog}
@@ -20,7 +21,8 @@ use Rattle.state.specs.declared.types.Refusal.{Refusal}
 use Rattle.state.specs.declared.types.Refusal.the-variants.{BadSize, NotMounted, Busy, BadFile, Damaged, Eof, Short, NoRoom, SeqEnd, NoSearch, Gone, Range}
 use Rattle.state.specs.declared.types.Done.{Done}
 use Rattle.state.specs.declared.types.Done.the-variants.{Done as Fine, Refused}
-use Rattle.state.specs.Values.{fileAt, isEmpty, inShape}
+use Rattle.state.specs.Values.{fileAt, isEmpty, inShape, unmounted}
+use Rattle.state.specs.Refusals.{number}
 use Rattle.state.specs.Checks.{sizes, isMounted, wrongSize}
 use Rattle.state.specs.World.{World}
 use Rattle.volume.specs.Scan.{scan}
@@ -221,7 +223,7 @@ countOf w = w .state .«page_count»
 abbrev pub recordAt : World → ℕ → FileRecord
 recordAt w file = fileAt (w .table) file
 
--- a file that is not empty and cannot be followed
+-- a record that cannot be followed. An empty file's cannot: where that is no damage, the condition asks for a file that is not empty too
 abbrev pub misshapen : World → ℕ → Bool
 misshapen w file = not (inShape (countOf w) (recordAt w file))
 
@@ -289,9 +291,9 @@ unfoldable pub conditions : Call → World → Conditions
 conditions format w = atStart w false
 conditions mount w = atStart w (mountBad (mountFrom (w .image) (length (w .map)) (scan (w .image) (length (w .map)))))
 conditions (locate file seq) w = locating w file seq (misshapen w file || pathBad (pathOf (w .image) (countOf w) (recordAt w file) seq .ends))
-conditions (read r n) w =
-    reading w (r .file) (r .seq) n
-    (misshapen w (r .file) || readBad (R.bytesFrom (w .image) (countOf w) (recordAt w (r .file)) n (r .seq) n))
+conditions (read r out) w =
+    reading w (r .file) (r .seq) (length out)
+    (misshapen w (r .file) || readBad (R.bytesFrom (w .image) (countOf w) (recordAt w (r .file)) (length out) (r .seq) (length out)))
 conditions (skip r n) w = reading w (r .file) (r .seq) n (landBad w (r .file) (r .seq + n))
 conditions (seek file n) w = reading w file (recordAt w file .«first_seq») n (landBad w file (recordAt w file .«first_seq» + n))
 conditions (search file) w =
@@ -313,3 +315,21 @@ conditions (truncate file n) w =
 conditions (rename i j) w = plain w (w .state .writer .active) (ltb 7 i || ltb 7 j) false
 conditions (flags file n ok) w = plain w (w .state .writer .active) (ltb 7 file) false
 conditions commit w = committing w (dirtyFiles (w .table)) (logEnd (w .image) (w .state .«meta_page»))
+
+-- ---- what a refusal leaves
+
+-- of a Damaged mount: the state unmounted with its seed, the map all zero, image and table as they were
+abbrev pub afterDamaged : World → World
+afterDamaged w = record { image = w .image; map = replicate (length (w .map)) 0; table = w .table; state = unmounted (w .state .seed) }
+
+-- one of two, by whether the refusal is Damaged
+abbrev pub ifDamaged : {A : Type 0} → Refusal → A → A → A
+ifDamaged why x y = cond (eqb (number why) 5) x y
+
+-- of a mount
+abbrev pub mountLeaves : Refusal → World → World
+mountLeaves why w = ifDamaged why (afterDamaged w) w
+
+-- of a read, of its output: all zero where it is Damaged
+abbrev pub outputLeft : Refusal → List ℕ → List ℕ
+outputLeft why out = ifDamaged why (replicate (length out) 0) out

@@ -77,7 +77,7 @@ pub fn no_links() -> [u16; 9]
 }
 
 // The links of a page being written: id at every index from 0 up to top, and those given above.
-pub fn new_links(links: [u16; 9], top: usize, id: u16) -> [u16; 9]
+fn new_links(links: [u16; 9], top: usize, id: u16) -> [u16; 9]
     ensures { λ r. ⌜ r ≡ linked links top id ⌝ }
 {
     let mut out = links;

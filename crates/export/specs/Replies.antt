@@ -57,9 +57,10 @@ pub record ReadReplied (r : SeqReply) (out : List ℕ) (a : AfterRead) : Type 0 
   pub seq : r .seq ≡ a .reader .seq
   pub output : out ≡ a .out
 
-abbrev pub skippedReply : Skipped → SeqReply
-skippedReply (S.To seq) = record { code = 0; seq = seq }
-skippedReply (S.Refused why) = record { code = number why; seq = 0 }
+-- of a reader that stands at a number, which a refusal leaves
+abbrev pub skippedReply : ℕ → Skipped → SeqReply
+skippedReply stands (S.To seq) = record { code = 0; seq = seq }
+skippedReply stands (S.Refused why) = record { code = number why; seq = stands }
 
 -- ---- search
 

@@ -12,7 +12,7 @@ ghost use Rattle.state.specs.Values.{unmounted, emptyTable};
 ghost use Rattle.state.specs.World.{before, result};
 ghost use Rattle.volume.specs.Format.{format};
 ghost use Rattle.volume.specs.Mount.{mount};
-ghost use Rattle.reader.specs.Ask.{freePages, usedPages};
+ghost use Rattle.reader.specs.Ask.{readerAt, freePages, usedPages};
 ghost use Rattle.reader.specs.Locate.{locate};
 ghost use Rattle.reader.specs.Read.{read};
 ghost use Rattle.reader.specs.Skip.{skip, seekOffset};
@@ -90,7 +90,7 @@ pub extern "C" fn mv_read(
     replies::read_reply(reader::read(image, map, table, state, Reader { file, seq }, out))
 }
 
-// The number len bytes behind seq.
+// The number len bytes behind seq; seq itself where refused.
 #[no_mangle]
 pub extern "C" fn mv_skip(
     image: &[u8],
@@ -101,12 +101,15 @@ pub extern "C" fn mv_skip(
     seq: u32,
     len: usize,
 ) -> SeqReply
-    ensures { λ r. ⌜ r ≡ skippedReply (skip (before (now (image .entry)) (now (map .entry)) table state) (record { file = file; seq = seq }) len) ⌝ }
+    ensures { λ r. ⌜ r ≡ skippedReply seq (skip (before (now (image .entry)) (now (map .entry)) table state) (record { file = file; seq = seq }) len) ⌝ }
 {
-    replies::skipped(reader::skip(image, map, table, state, Reader { file, seq }, len))
+    replies::skipped(
+        reader::skip(image, map, table, state, Reader { file, seq }, len),
+        seq,
+    )
 }
 
-// The number offs bytes behind the file's first one.
+// The number offs bytes behind the file's first one; where refused, where a new reader stands.
 #[no_mangle]
 pub extern "C" fn mv_seek(
     image: &[u8],
@@ -116,9 +119,10 @@ pub extern "C" fn mv_seek(
     file: u8,
     offs: usize,
 ) -> SeqReply
-    ensures { λ r. ⌜ r ≡ skippedReply (seekOffset (before (now (image .entry)) (now (map .entry)) table state) file offs) ⌝ }
+    ensures { λ r. ⌜ r ≡ skippedReply (readerAt table file .seq) (seekOffset (before (now (image .entry)) (now (map .entry)) table state) file offs) ⌝ }
 {
-    replies::skipped(reader::seek(image, map, table, state, file, offs))
+    let new = reader::ask::reader_of(table, file);
+    replies::skipped(reader::seek(image, map, table, state, file, offs), new.seq)
 }
 
 // Starts a search for a record of a file. The state is the caller's and is changed in place, as in the next call.

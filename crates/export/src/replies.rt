@@ -28,7 +28,7 @@ pub struct LocateReply {
     pub headers: u32,
 }
 
-// Where a reader then stands; 0 where a skip was refused.
+// Where a reader then stands: where it stood, if refused.
 #[repr(C)]
 pub struct SeqReply {
     pub code: u32,
@@ -97,14 +97,14 @@ pub fn read_reply(out: ReadOut) -> SeqReply
     }
 }
 
-pub fn skipped(to: Skipped) -> SeqReply
-    ensures { λ r. ⌜ r ≡ skippedReply to ⌝ }
+pub fn skipped(to: Skipped, stands: u32) -> SeqReply
+    ensures { λ r. ⌜ r ≡ skippedReply stands to ⌝ }
 {
     match to {
         Skipped::To(seq) => SeqReply { code: 0, seq },
         Skipped::Refused(why) => SeqReply {
             code: code_of(Done::Refused(why)),
-            seq: 0,
+            seq: stands,
         },
     }
 }

@@ -14,7 +14,8 @@ use Rattle.state.specs.declared.types.Done.the-variants.{Done as Fine, Refused}
 use Rattle.state.specs.declared.types.Out.{Out}
 use Rattle.state.specs.Refusals.{number}
 use Rattle.state.specs.Values.{emptyTable, unmounted}
-use Rattle.state.specs.World.{World, After, before, after, result}
+use Rattle.state.specs.World.{World, After, before, after, result, yields, promised}
+use Rattle.state.proofs.Numbers.{promise-same}
 use Rattle.volume.specs.Mount.{mount}
 use Rattle.inventory.specs.Inventory.{linesOf, refusedBy, mounted, inventoryOf}
 
@@ -31,12 +32,12 @@ pub record Handed (img : List ℕ) (r : Out) : Type 0 where
 
 module _ (img : List ℕ) (h : length img ≤ 65536) (r : Out) where
   pub handed : (m : List ℕ) (t : Table) (s : State) → t ≡ emptyTable → s ≡ unmounted 1
-      → after r img m ≡ result mount (before img (take (length img / 256) (replicate 256 0)) t s) → Handed img r
+      → yields r img m ≡ promised mount (before img (take (length img / 256) (replicate 256 0)) t s) → Handed img r
   handed m t s et es e =
       let k : length img / 256 ≤ 256 = omega arith in
       let w : before img (take (length img / 256) (replicate 256 0)) t s ≡ before img (replicate (length img / 256) 0) emptyTable (unmounted 1) =
       rw (et, es, take-replicate (length img / 256) 256 0 k) in
-      let g : after r img m ≡ result mount (before img (replicate (length img / 256) 0) emptyTable (unmounted 1)) = e ∙ ap (λ (v : World). result mount v) w in
+      let g : after r img m ≡ result mount (before img (replicate (length img / 256) 0) emptyTable (unmounted 1)) = promise-same mount _ r img m e ∙ ap (λ (v : World). result mount v) w in
       record {
         answer = sym (ap (λ (a : After Done). a .answer) g);
         table = sym (ap (λ (a : After Done). a .world .table) g);

@@ -1,12 +1,12 @@
 -- What the log's definitions say at one more step.
 -- Assumes nothing.
 use Prim.Native.Nat.{ℕ, zero, suc, _+_, _-_, _*_, _≤_, _<_}
-use mathlib.Core.Path.{_≡_, refl, ap, _∙_}
+use mathlib.Core.Path.{_≡_, refl, sym, ap, _∙_}
 use mathlib.Core.List.{List, [], _∷_, _++_}
-use mathlib.Core.Bool.{true, false, _&&_, and-eq-true-iff}
+use mathlib.Core.Bool.{true, false, cond, _&&_, and-eq-true-iff}
 use native.Mathlib.Omega.{arith}
 use native.Mathlib.Nat.{add-assoc, add-zero, zero-add}
-use lib.ListN.{length, drop}
+use lib.ListN.{length, drop, getD}
 use lib.Dec.{eqb, ltb, leb}
 use borrow.Author.Tests.{leb-true}
 use Rattle.runs.specs.Runs.{part, le16, le32}
@@ -17,12 +17,25 @@ use Rattle.log.specs.declared.Batch.the-variants.{End, Entries, Bad}
 use Rattle.log.specs.declared.LogEnd.{LogEnd}
 use Rattle.log.specs.declared.LogEnd.the-variants.{At, Damaged}
 use Rattle.log.specs.declared.Replay.{Replay}
-use Rattle.log.specs.Log.{pairSize, entrySize, batchSize, goodPair, batchOf, batchAt, entryOf, entries, Log, ended, damaged, after, logBy, logFrom, logOf, endOf, add, adds, fresh, replayed}
+use Rattle.log.specs.Log.{pairSize, entrySize, batchSize, goodPair, batchOf, batchAt, entryOf, entries, Log, ended, damaged, after, logBy, logFrom, logOf, endOf, endNumbers, add, adds, fresh, replayed}
 
 -- one entry, and those behind it
 pub entries-more : (k : ℕ) (bs : List ℕ) → 0 < k → entries k bs ≡ entryOf bs ∷ entries (k - 1) (drop entrySize bs)
 entries-more zero bs h = absurd (omega arith)
 entries-more (suc k) bs h = let e : suc k - 1 ≡ k = omega arith in rw e
+
+-- ---- where a log ends
+
+-- the answer's numbers lose nothing: it can be read back from them
+abbrev endIn : List ℕ → LogEnd
+endIn l = cond (eqb (getD l 0 0) 0) (At (getD l 1 0)) Damaged
+
+end-back : (a : LogEnd) → endIn (endNumbers a) ≡ a
+end-back (At e) = refl
+end-back Damaged = refl
+
+pub end-same : (a b : LogEnd) → endNumbers a ≡ endNumbers b → a ≡ b
+end-same a b e = sym (end-back a) ∙ ap endIn e ∙ end-back b
 
 -- ---- the log, a batch at a time
 

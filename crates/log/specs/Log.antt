@@ -94,6 +94,11 @@ abbrev pub endOf : Log → LogEnd
 endOf (ended es e) = At e
 endOf damaged = Damaged
 
+-- the answer in document 01's numbers: 0 and the offset, or 5, Damaged
+abbrev pub endNumbers : LogEnd → List ℕ
+endNumbers (At e) = 0 ∷ e ∷ []
+endNumbers Damaged = 5 ∷ []
+
 unfoldable pub logEnd : List ℕ → ℕ → LogEnd
 logEnd img p = endOf (logAt img p)
 

@@ -5,7 +5,7 @@ ghost use mathlib.Core.Bool.{true, cond, _&&_};
 ghost use Prim.Native.Nat.{_*_, _≤_, _<_};
 ghost use lib.ListN.{length};
 ghost use Rattle.page.specs.Store.{stored, ran};
-ghost use Rattle.log.specs.Log.{entrySize, goodPair, batchAt, entryOf, entries, areaOf, logOf, endOf, logEnd, restErased, fits, sound, put, noFiles, add, adds, fresh, replayed, replayOf};
+ghost use Rattle.log.specs.Log.{entrySize, goodPair, batchAt, entryOf, entries, areaOf, logOf, endOf, endNumbers, logEnd, restErased, fits, sound, put, noFiles, add, adds, fresh, replayed, replayOf};
 ghost use Rattle.log.specs.Batch.{entryBytes, pairBytes, entryFor, chosen, marked, batchStores, newMetaStores};
 ghost use Rattle.log.specs.Run.{added, addedIf, runOf, runStores};
 
@@ -127,7 +127,7 @@ fn end_of(bs: &[u8]) -> LogEnd
 
 // Where the log of page p ends, or that it cannot be read.
 pub fn log_end(image: &[u8], p: usize) -> LogEnd
-    ensures { λ r. ⌜ r ≡ logEnd (now (image .entry)) p ⌝ }
+    ensures { λ r. ⌜ endNumbers r ≡ endNumbers (logEnd (now (image .entry)) p) ⌝ }
 {
     end_of(area(image, p))
 }

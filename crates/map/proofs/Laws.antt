@@ -15,7 +15,7 @@ use borrow.Author.Tests.{lt-ltb, le-ltb, le-leb, lt-leb, eq-eqb, ne-eqb, eqb-tru
 use Rattle.runs.proofs.Laws.{cond-by}
 use Rattle.map.specs.declared.Alloc.{Alloc}
 use Rattle.map.specs.declared.Alloc.the-variants.{Page, Full}
-use Rattle.map.specs.Map.{held, firstFree, allocOf, usedBy, Allocation, leaves, allocated, beyond, steps, isOne, countOf, isFree, freeCount, unheld, released, cleared}
+use Rattle.map.specs.Map.{held, firstFree, allocOf, allocNumbers, usedBy, Allocation, leaves, allocated, beyond, steps, isOne, countOf, isFree, freeCount, unheld, released, cleared}
 
 -- one order or the other
 pub split {ℓ} : {X : Type ℓ} (a b : ℕ) → (a ≤ b → X) → (b < a → X) → X
@@ -297,12 +297,23 @@ module _ (m : List ℕ) (count cursor : ℕ) (ok : cursor ≤ count) where
       let f = alloc-found i h in
       count-take m count i 1 (f .inside) (f .free) (λ q. omega arith)
 
--- an allocation's answer, and the map that it leaves
+-- an allocation's numbers lose nothing: it can be read back from them
+abbrev foundIn : List ℕ → Alloc
+foundIn l = cond (eqb (getD l 0 0) 0) (Page (getD l 1 0)) Full
+
+found-back : (a : Alloc) → foundIn (allocNumbers a) ≡ a
+found-back (Page i) = refl
+found-back Full = refl
+
+pub alloc-same : (a b : Alloc) → allocNumbers a ≡ allocNumbers b → a ≡ b
+alloc-same a b e = sym (found-back a) ∙ ap foundIn e ∙ found-back b
+
+-- so that a promised allocation's answer is the definition's
 pub allocated-answer : (m m′ : List ℕ) (count cursor : ℕ) (a : Alloc) → leaves a m′ ≡ allocated m count cursor → a ≡ allocOf m count cursor
 unfolding allocated
-allocated-answer m m′ count cursor a h = ap (λ (x : Allocation). x .answer) h
+allocated-answer m m′ count cursor a h = alloc-same a (allocOf m count cursor) (ap (λ (x : Allocation). x .answer) h)
 
--- what was found is used
+-- and what was found is used
 pub allocated-left : (m m′ : List ℕ) (count cursor : ℕ) (a : Alloc) → leaves a m′ ≡ allocated m count cursor → m′ ≡ usedBy m (allocOf m count cursor)
 unfolding allocated
 allocated-left m m′ count cursor a h = ap (λ (x : Allocation). x .left) h

@@ -35,18 +35,23 @@ allocOf m count cursor =
     cond (ltb (firstFree up) (length up)) (Page (cursor + firstFree up))
     (cond (ltb (firstFree low) (length low)) (Page (firstFree low)) Full)
 
+-- an answer in document 01's numbers: 0 and the page, or 8, NoRoom
+abbrev pub allocNumbers : Alloc → List ℕ
+allocNumbers (Page i) = 0 ∷ i ∷ []
+allocNumbers Full = 8 ∷ []
+
 -- the map with what was allocated used
 abbrev pub usedBy : List ℕ → Alloc → List ℕ
 usedBy m (Page i) = set m i used
 usedBy m Full = m
 
--- an allocation: its answer, and the map that it leaves
+-- an allocation: its answer in numbers, and the map that it leaves
 pub record Allocation : Type 0 where
-  pub answer : Alloc
+  pub answer : List ℕ
   pub left : List ℕ
 
 abbrev pub leaves : Alloc → List ℕ → Allocation
-leaves a m = record { answer = a; left = m }
+leaves a m = record { answer = allocNumbers a; left = m }
 
 unfoldable pub allocated : List ℕ → ℕ → ℕ → Allocation
 allocated m count cursor = leaves (allocOf m count cursor) (usedBy m (allocOf m count cursor))

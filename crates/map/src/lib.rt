@@ -3,7 +3,7 @@
 ghost use mathlib.Core.Path.{_≡_};
 ghost use Prim.Native.Nat.{min, _≤_};
 ghost use lib.ListN.{length, take, set};
-ghost use Rattle.map.specs.Map.{free, used, held, firstFree, allocOf, leaves, allocated, beyond, isFree, freeCount, unheld, released, cleared};
+ghost use Rattle.map.specs.Map.{free, used, held, firstFree, allocOf, allocNumbers, leaves, allocated, beyond, isFree, freeCount, unheld, released, cleared};
 
 pub const FREE: u8 = 0;
 
@@ -42,7 +42,7 @@ fn first_free(m: &[u8]) -> usize
 
 // The first free id below count from the cursor upward and round.
 pub fn find_free(m: &[u8], count: usize, cursor: usize) -> Alloc
-    ensures { λ r. ⌜ r ≡ allocOf (now (m .entry)) count cursor ⌝ }
+    ensures { λ r. ⌜ allocNumbers r ≡ allocNumbers (allocOf (now (m .entry)) count cursor) ⌝ }
 {
     let n = least(count, m.len());
     let c = least(cursor, n);

@@ -124,7 +124,7 @@ pub fn unread() -> HeaderRead
 }
 
 // The header of a data page's bytes.
-pub fn header_of(pg: &[u8]) -> HeaderRead
+fn header_of(pg: &[u8]) -> HeaderRead
     ensures { λ r. ⌜ r ≡ gives (headerOf (now (pg .entry))) ⌝ }
 {
     if begins(pg, DATA_MAGIC) {
@@ -148,7 +148,7 @@ pub fn unread_back() -> BackRead
 }
 
 // Of the same header, what a step back asks: a walk of many pages copies no headers.
-pub fn back_of(pg: &[u8]) -> BackRead
+fn back_of(pg: &[u8]) -> BackRead
     ensures { λ r. ⌜ r ≡ givesBack (headerOf (now (pg .entry))) ⌝ }
 {
     if begins(pg, DATA_MAGIC) & pair_reads(pg) {
@@ -162,7 +162,7 @@ pub fn back_of(pg: &[u8]) -> BackRead
 }
 
 // The header of a metadata page's bytes.
-pub fn meta_of(pg: &[u8]) -> MetaRead
+fn meta_of(pg: &[u8]) -> MetaRead
     ensures { λ r. ⌜ r ≡ metaOf (now (pg .entry)) ⌝ }
 {
     if begins(pg, META_MAGIC) {
@@ -246,7 +246,7 @@ pub fn payload_at(image: &[u8], p: usize, off: usize, n: usize) -> &[u8]
 
 // ---- bytes of headers
 
-pub fn header_bytes(h: DataHeader) -> [u8; 32]
+fn header_bytes(h: DataHeader) -> [u8; 32]
     ensures { λ r. ⌜ r ≡ headerBytes h ⌝ }
 {
     header_list(h)
@@ -296,7 +296,7 @@ fn header_list(h: DataHeader) -> [u8; 32]
     ]
 }
 
-pub fn meta_bytes(m: MetaHeader) -> [u8; 12]
+fn meta_bytes(m: MetaHeader) -> [u8; 12]
     ensures { λ r. ⌜ r ≡ metaBytes m ⌝ }
 {
     meta_list(m)

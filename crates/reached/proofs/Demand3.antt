@@ -308,7 +308,7 @@ module _ {N : ℕ} {w : World} {b : Base} {own : ℕ → Owner} (g : Good (Unit 
             subst (Mem p) (sym (chain-ids full)) (in-mem (subst (In p) (chain-pages g i full) (o′ .visits)))
 
     -- READ
-    pub reads : (r : Reader) (out : List ℕ) → r .file ≡ i → fileAt (w .table) i .«first_seq» ≤ r .seq → r .seq + length out ≤ fileAt (w .table) i .«last_seq» → 0 < length out → Reads w r out
+    pub reads : (r : Reader) (out : List ℕ) → r .file ≡ i → fileAt (w .table) i .«first_seq» ≤ r .seq → r .seq + length out ≤ fileAt (w .table) i .«last_seq» → 0 < length out → Reads w w r out
     unfolding read readIn
     reads r out e low high pos =
         record {
@@ -351,5 +351,5 @@ pub held-locates : {w : World} → Held w → w .state .transaction ≡ false �
 held-locates k idle i n i8 low high = locates (k .good) i i8 idle n low high
 
 pub held-reads : {w : World} → Held w → w .state .transaction ≡ false → (r : Reader) (out : List ℕ) → r .file < 8 → 0 < length out → fileAt (w .table) (r .file) .«first_seq» ≤ r .seq
-    → r .seq + length out ≤ fileAt (w .table) (r .file) .«last_seq» → Reads w r out
+    → r .seq + length out ≤ fileAt (w .table) (r .file) .«last_seq» → Reads w w r out
 held-reads k idle r out i8 pos low high = reads (k .good) (r .file) i8 idle r out refl low high pos

@@ -1,17 +1,24 @@
 -- In every world that calls reach from a format the invariant holds with the link rule, so that it counts as mounted. Assumes nothing.
 use Rattle.state.specs.declared.types.Done.the-variants.{Done as Fine}
-use Rattle.state.specs.World.{World, Outcome, ended, result}
+use Rattle.state.specs.World.{World, Outcome, ended, result, refuse}
+use Rattle.state.specs.Values.{settled}
+use Rattle.state.specs.declared.types.Table.{Table}
+use Rattle.state.specs.declared.types.State.{State}
+use Rattle.state.specs.declared.types.Refusal.the-variants.{BadSize}
 use Rattle.seq.specs.Seed.{seedAfter}
 use Rattle.volume.specs.Format as volume-format
 use Rattle.volume.specs.Mount as volume-mount
-use Rattle.volume.specs.Mount.{Maybe, bad, good, LoadedAll}
+use Rattle.volume.specs.Mount.{good}
+use Rattle.volume.specs.declared.Best.{Best}
 use Rattle.volume.specs.Scan.{scan}
 use Rattle.calls.specs.Calls as calls
-use Rattle.calls.specs.Calls.{Call, step, starts, goes, FromFormat}
+use Rattle.calls.specs.Calls.{Call, step, FromFormat, formats, reaches, boots, powered}
 use Prim.Native.Nat.{ℕ, _*_, _≤_}
-use mathlib.Core.Path.{_≡_, refl, sym, subst}
-use mathlib.Core.Bool.{true}
-use mathlib.Core.List.{map}
+use mathlib.Core.Path.{_≡_, refl, sym, ap, subst, _∙_}
+use mathlib.Core.Bool.{Bool, true, false, cond}
+use mathlib.Core.List.{List, map}
+use native.Mathlib.Omega.{arith}
+use borrow.Author.Tests.{eq-eqb, le-leb}
 use lib.ListN.{length}
 use Rattle.state.specs.declared.types.Done.{Done}
 use Rattle.agree.specs.Good.{Known}
@@ -21,7 +28,7 @@ use Rattle.agree.proofs.Commit.{commit-keeps}
 use Rattle.agree.proofs.Counts.{good-mounted}
 use Rattle.agree.proofs.Finish.{finish-keeps, discard-keeps}
 use Rattle.agree.proofs.Format.{format-known}
-use Rattle.agree.proofs.Found.{mount-finds}
+use Rattle.agree.proofs.Found.{Finds, mount-finds}
 use Rattle.agree.proofs.Keeps.{cond-by, known, start-keeps, left-keeps, right-keeps, flags-keeps, rename-keeps, record-end-keeps}
 use Rattle.agree.proofs.Mount.{mount-known}
 use Rattle.agree.proofs.Open.{open-keeps}
@@ -60,30 +67,63 @@ unfolding volume-format.format
 format-held w k =
     cond-by (λ (o : Outcome Done). Held (ended w o .world)) (sizes (length (w .image)) (length (w .map))) _ _ (λ e. formatted-held w (k .good .sees .bytes) e) (λ e. k)
 
--- ---- MOUNT: it finds what was committed
+-- ---- MOUNT: it finds what was committed, with any map of that length, table and state
 
-mount-held : (w : World) → Held w → Held (result volume-mount.mount w .world)
-unfolding volume-mount.mount volume-mount.mountWith volume-mount.mountBest
-mount-held w k =
-    cond-by (λ (o : Outcome Done). Held (ended w o .world)) (sizes (length (w .image)) (length (w .map))) _ _
-    (λ e. by (sizes-say (length (w .image)) (length (w .map)) e) (volume-mount.mountFrom (w .image) (length (w .map)) (scan (w .image) (length (w .map)))) refl) (λ e. k)
-  where
-    rules : Unit {0} → (b : Base) → Mounted (length (w .map)) (view (w .image)) b → (i : ℕ) → ChainOf (w .image) (b .pc) (b .tab i)
-    rules d b m i =
-        let s = mounted-one (k .good .inv .mounted) m in
-        subst (λ (c : ℕ). ChainOf (w .image) c (b .tab i)) (s .pc) (subst (ChainOf (w .image) (k .base .pc)) (s .tab i) (k .good .rules tt .base i))
+module _ {w : World} (k : Held w) (m : List ℕ) (t : Table) (s : State) (same : length m ≡ length (w .map)) where
+  abbrev v : World
+  v = powered w m t s
 
-    by : (4 ≤ length (w .map)) × (length (w .map) ≤ 1024) × (length (w .image) ≡ 256 * length (w .map)) → (x : Maybe LoadedAll) → volume-mount.mountFrom (w .image) (length (w .map)) (scan (w .image) (length (w .map))) ≡ x
-        → Held (ended w (volume-mount.mountedAs w (length (w .map)) (seedAfter (w .state .seed)) (scan (w .image) (length (w .map))) x) .world)
-    by z bad h = let f = mount-finds (w .image) (k .good .inv .mounted) (k .good .sees .bytes) in clash (cc (f .is))
-    by z (good x) h = known-held (mount-known (Unit {0}) w (k .good .sees .bytes) (length (w .map)) (seedAfter (w .state .seed)) x rules (z .2) (z .0) (z .1) h)
+  abbrev best : Best
+  best = scan (w .image) (length m)
+
+  abbrev F : Finds (w .image) (k .good .inv .mounted)
+  F = mount-finds (w .image) (k .good .inv .mounted) (k .good .sees .bytes)
+
+  finds : volume-mount.mountFrom (w .image) (length m) (scan (w .image) (length m)) ≡ good (mount-finds (w .image) (k .good .inv .mounted) (k .good .sees .bytes) .loaded)
+  finds = subst (λ (n : ℕ). volume-mount.mountFrom (w .image) n (scan (w .image) n) ≡ good (F .loaded)) (sym same) (F .is)
+
+  sizes-ok : sizes (length (w .image)) (length m) ≡ true
+  unfolding sizes
+  sizes-ok =
+      let lo : 4 ≤ length m = omega (arith, k .good .sees .big) in
+      let hi : length m ≤ 1024 = omega (arith, k .good .sees .small) in
+      let e : length (w .image) ≡ 256 * length m = k .good .sees .size ∙ ap (λ (n : ℕ). 256 * n) (sym same) in
+      rw (le-leb 4 (length m) lo, le-leb (length m) 1024 hi, eq-eqb (length (w .image)) (256 * length m) e)
+
+  pub boots-as : volume-mount.mount (powered w m t s) ≡ volume-mount.mountedAs (powered w m t s) (length m) (seedAfter (s .seed)) (scan (w .image) (length m)) (good (mount-finds (w .image) (k .good .inv .mounted) (k .good .sees .bytes) .loaded))
+  unfolding volume-mount.mount volume-mount.mountWith volume-mount.mountBest
+  boots-as =
+      ap (λ (c : Bool). cond c (volume-mount.mountedAs v (length m) (seedAfter (s .seed)) best (volume-mount.mountFrom (w .image) (length m) best)) (refuse v BadSize)) sizes-ok
+      ∙ ap (volume-mount.mountedAs v (length m) (seedAfter (s .seed)) best) finds
+
+  -- it succeeds, and nothing is open
+  pub boot-fine : volume-mount.mount (powered w m t s) .answer ≡ Fine
+  boot-fine = ap (λ (o : Outcome Done). o .answer) boots-as
+
+  pub boot-idle : volume-mount.mount (powered w m t s) .state .transaction ≡ false
+  unfolding settled
+  boot-idle = ap (λ (o : Outcome Done). o .state .transaction) boots-as
+
+  -- a known world, with the link rule where it is asked
+  pub boot-known : (D : Type 0) → Known D (length m) (ended (powered w m t s) (volume-mount.mountedAs (powered w m t s) (length m) (seedAfter (s .seed)) (scan (w .image) (length m)) (good (mount-finds (w .image) (k .good .inv .mounted) (k .good .sees .bytes) .loaded))) .world)
+  boot-known D =
+      let z = sizes-say (length (w .image)) (length m) sizes-ok in
+      mount-known D v (k .good .sees .bytes) (length m) (seedAfter (s .seed)) (F .loaded) rules (z .2) (z .0) (z .1) finds
+    where
+      rules : D → (b : Base) → Mounted (length m) (view (w .image)) b → (i : ℕ) → ChainOf (w .image) (b .pc) (b .tab i)
+      rules d b M i =
+          let a = mounted-one (k .good .inv .mounted) (subst (λ (n : ℕ). Mounted n (view (w .image)) b) same M) in
+          subst (λ (c : ℕ). ChainOf (w .image) c (b .tab i)) (a .pc) (subst (ChainOf (w .image) (k .base .pc)) (a .tab i) (k .good .rules tt .base i))
+
+  pub boot-held : Held (result volume-mount.mount (powered w m t s) .world)
+  boot-held = subst (λ (o : Outcome Done). Held (ended v o .world)) (sym boots-as) (known-held (boot-known (Unit {0})))
 
 -- ---- EVERY CALL
 
 pub step-held : (c : Call) (w : World) → Held w → Held (step c w)
 unfolding step
 step-held calls.format w k = format-held w k
-step-held calls.mount w k = mount-held w k
+step-held calls.mount w k = boot-held k (w .map) (w .table) (w .state) refl
 step-held (calls.locate i n) w k = k
 step-held (calls.read r n) w k = k
 step-held (calls.skip r n) w k = k
@@ -103,8 +143,10 @@ step-held calls.commit w k = known-held (commit-keeps (k .good) .known)
 
 -- demand 3's worlds
 pub format-reached : {w : World} → FromFormat w → Held w
-format-reached (starts f) = subst Held (sym (f .left)) (starts-held (f .from) (f .bytes) (f .done))
-format-reached (goes {w = w} c r) = step-held c w (format-reached r)
+unfolding step
+format-reached (formats f) = subst Held (sym (f .left)) (starts-held (f .from) (f .bytes) (f .done))
+format-reached (reaches {w = w} c r) = step-held c w (format-reached r)
+format-reached (boots m t s same r) = boot-held (format-reached r) m t s same
 
 -- they all count as mounted
 pub format-mounted : {w : World} → FromFormat w → isMounted (w .state) ≡ true

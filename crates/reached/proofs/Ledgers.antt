@@ -13,7 +13,7 @@ use Rattle.writer.specs.Finish as finish-calls
 use Rattle.writer.specs.Finish.{grown}
 use Prim.Native.Nat.{ℕ, zero, suc, _+_, _≤_, _<_}
 use mathlib.Core.Path.{_≡_, refl, sym, ap, ap₂, subst, _∙_}
-use mathlib.Core.Bool.{true, false, not}
+use mathlib.Core.Bool.{true, false, cond, not}
 use mathlib.Core.List.{List, [], _∷_, _++_, map, append-nil}
 use native.Mathlib.Omega.{arith}
 use native.Mathlib.Decide.{ℕ-discrete}
@@ -24,13 +24,15 @@ use Rattle.page.specs.declared.DataHeader.{DataHeader}
 use Rattle.state.specs.declared.types.FileRecord.{FileRecord}
 use Rattle.state.specs.declared.types.Done.{Done}
 use Rattle.reached.specs.Asked.{file}
-use Rattle.reached.specs.Ledger.{Ledger, put-at, with-files, with-draft}
+use Rattle.reached.specs.Ledger.{Noted, Ledger, put-at, with-files, with-draft}
 use Rattle.reached.proofs.Drafts.{draft-behind, flush-byte, Drafted}
 use Rattle.reached.proofs.Sessions.{write-spelt}
-use Rattle.reached.proofs.Tells.{byteFrom, Text, Tells, text-frame}
+use Rattle.reached.proofs.Tells.{byteFrom, Text, Tells, Tale, tale-of, text-frame}
 use Rattle.agree.specs.Good.{Waits, Good, Known}
 use Rattle.agree.specs.Rules.{Reaches, stagedPage}
 use Rattle.agree.specs.View.{view, asFile, recAt}
+use Rattle.state.proofs.Laws.{mounted-says, writer-says}
+use Rattle.agree.proofs.Counts.{good-mounted}
 use Rattle.agree.proofs.Finish.{numbers, grown-file}
 use Rattle.agree.proofs.Keeps.{cond-by, checked-by, known}
 use Rattle.agree.proofs.Pages.{clash}
@@ -125,14 +127,14 @@ file-stays {N} {w} (suc k) (c ∷ l) x bs j =
 abbrev pub Notes : ℕ → World → Ledger → Ledger → Outcome Done → Type 0
 Notes N w g g′ o = Tells N (ended w o .world) (onDone (o .answer) (λ why. g) g′)
 
-pub write-notes : {N : ℕ} {w : World} (k : Known (Unit {0}) N w) (g : Ledger) (l : List ℕ) → Bytes l → Tells N w g → Notes N w g (with-draft g (g .draft ++ l)) (write w l)
+pub write-notes : {N : ℕ} {w : World} (k : Known (Unit {0}) N w) (g : Ledger) (l : List ℕ) → Bytes l → Tells N w g → Notes N w g (with-draft g (g .opened) (g .draft ++ l)) (write w l)
 unfolding write writeIn withWriter withCursor
 write-notes {N} {w} k g l bs t =
-    checked-by (Notes N w g (with-draft g (g .draft ++ l))) w false 0 _ _ (λ why. t)
-    (λ h. cond-by (Notes N w g (with-draft g (g .draft ++ l))) (eqb (length l) 0) _ _ (λ e. nothing-more (eqb-true (length l) 0 e))
-    (λ z. cond-by (Notes N w g (with-draft g (g .draft ++ l))) (not (w .state .writer .active)) _ _ (λ e. t)
-    (λ e. cond-by (Notes N w g (with-draft g (g .draft ++ l))) (ltb seq-specs.limit (w .state .writer .seq + w .state .writer .length + length l)) _ _ (λ h. t)
-    (λ h. cond-by (Notes N w g (with-draft g (g .draft ++ l))) (tooFew (w .map) (w .state .«page_count») (pagesFor (space (w .state .writer)) (length l))) _ _ (λ h. t)
+    checked-by (Notes N w g (with-draft g (g .opened) (g .draft ++ l))) w false 0 _ _ (λ why. t)
+    (λ h. cond-by (Notes N w g (with-draft g (g .opened) (g .draft ++ l))) (eqb (length l) 0) _ _ (λ e. nothing-more (eqb-true (length l) 0 e))
+    (λ z. cond-by (Notes N w g (with-draft g (g .opened) (g .draft ++ l))) (not (w .state .writer .active)) _ _ (λ e. t)
+    (λ e. cond-by (Notes N w g (with-draft g (g .opened) (g .draft ++ l))) (ltb seq-specs.limit (w .state .writer .seq + w .state .writer .length + length l)) _ _ (λ h. t)
+    (λ h. cond-by (Notes N w g (with-draft g (g .opened) (g .draft ++ l))) (tooFew (w .map) (w .state .«page_count») (pagesFor (space (w .state .writer)) (length l))) _ _ (λ h. t)
     (λ u. added (not-false (w .state .writer .active) e)
     (record {
       known = k;
@@ -145,10 +147,10 @@ write-notes {N} {w} k g l bs t =
     none-left [] e = refl
     none-left (y ∷ l) e = absurd (omega arith)
 
-    nothing-more : length l ≡ 0 → Tells N w (with-draft g (g .draft ++ l))
-    nothing-more e = subst (λ (y : List ℕ). Tells N w (with-draft g y)) (sym (ap (λ (y : List ℕ). g .draft ++ y) (none-left l e) ∙ append-nil (g .draft))) t
+    nothing-more : length l ≡ 0 → Tells N w (with-draft g (g .opened) (g .draft ++ l))
+    nothing-more e = subst (λ (y : List ℕ). Tells N w (with-draft g (g .opened) y)) (sym (ap (λ (y : List ℕ). g .draft ++ y) (none-left l e) ∙ append-nil (g .draft))) t
 
-    added : w .state .writer .active ≡ true → Going (Unit {0}) N w (length l) (begun w) → Tells N (ended w (writtenAs w (writeFrom (w .state .«page_count») (length l) l (begun w))) .world) (with-draft g (g .draft ++ l))
+    added : w .state .writer .active ≡ true → Going (Unit {0}) N w (length l) (begun w) → Tells N (ended w (writtenAs w (writeFrom (w .state .«page_count») (length l) l (begun w))) .world) (with-draft g (g .opened) (g .draft ++ l))
     added e j =
         let x = writeFrom (w .state .«page_count») (length l) l (begun w) in
         let p = write-paged (length l) l (begun w) g bs j (record { files = t .files; base = t .base }) in
@@ -156,18 +158,27 @@ write-notes {N} {w} k g l bs t =
           files = p .files;
           base = p .base;
           draft = λ on. write-spelt {w = w} (length l) l (begun w) (g .draft) bs (omega arith) j (t .draft e);
+          whose = λ on. t .whose e ∙ sym (file-stays {w = w} (length l) l (begun w) bs j);
         }
 
 -- ---- FINISH
 
-pub finish-notes : {N : ℕ} {w : World} (k : Known (Unit {0}) N w) (g : Ledger) → Tells N w g → Notes N w g (with-files g (put-at (g .files) (w .state .writer .file) (g .draft))) (finish-calls.finish w)
+-- what a finish makes of the file that the writer was opened on
+abbrev drafted : Ledger → ℕ → Noted
+drafted g i = record { first = g .files i .first; bytes = g .draft }
+
+abbrev finishedAs : Ledger → ℕ → Ledger
+finishedAs g i = with-files g (put-at (g .files) i (drafted g i))
+
+pub finish-notes : {N : ℕ} {w : World} (k : Known (Unit {0}) N w) (g : Ledger) → Tells N w g → Notes N w g (with-files g (put-at (g .files) (g .opened) (record { first = g .files (g .opened) .first; bytes = g .draft }))) (finish-calls.finish w)
 unfolding finish-calls.finish finish-calls.finished withWriter opened noWriter
 finish-notes {N} {w} k g t =
-    checked-by (Notes N w g (with-files g (put-at (g .files) (w .state .writer .file) (g .draft)))) w false 0 _ _ (λ why. t)
-    (λ h. cond-by (Notes N w g (with-files g (put-at (g .files) (w .state .writer .file) (g .draft)))) (w .state .writer .active) _ _
-    (λ e. cond-by (Notes N w g (with-files g (put-at (g .files) (w .state .writer .file) (g .draft)))) (isStaged (w .state .writer)) _ _
+    checked-by (Notes N w g (finishedAs g (g .opened))) w false 0 _ _ (λ why. t)
+    (λ h. cond-by (Notes N w g (finishedAs g (g .opened))) (w .state .writer .active) _ _
+    (λ e. subst (λ (i : ℕ). Notes N w g (finishedAs g i) (cond (isStaged (w .state .writer)) (finish-calls.finished w (w .state .writer)) (finish-calls.shut w))) (sym (t .whose e))
+    (cond-by (Notes N w g (finishedAs g (w .state .writer .file))) (isStaged (w .state .writer)) _ _
     (λ s. stored e (eqb-false (w .state .writer .page) none (not-true (eqb (w .state .writer .page) none) s)))
-    (λ s. closed-same e (eqb-true (w .state .writer .page) none (not-false (eqb (w .state .writer .page) none) s))))
+    (λ s. closed-same e (eqb-true (w .state .writer .page) none (not-false (eqb (w .state .writer .page) none) s)))))
     (λ e. t))
   where
     x : state-writer.Writer
@@ -182,12 +193,18 @@ finish-notes {N} {w} k g t =
     first-is : firstOf (asFile (recAt (w .table) (w .state .writer .file))) ≡ recAt (w .table) (w .state .writer .file) .«first_seq»
     first-is = numbers (w .image) (recAt (w .table) (w .state .writer .file)) (k .good .sees .recs (w .state .writer .file)) .0
 
-    stored : w .state .writer .active ≡ true → (w .state .writer .page ≡ none → ⊥) → Tells N (ended w (finish-calls.finished w (w .state .writer)) .world) (with-files g (put-at (g .files) (w .state .writer .file) (g .draft)))
+    tale : w .state .writer .active ≡ true → Tale (w .image) (w .state .«page_count») (recAt (w .table) (w .state .writer .file)) (g .files (w .state .writer .file))
+    tale e =
+        let o = writer-says (w .state .«page_count») (w .state .writer) (mounted-says (w .state) (good-mounted (k .good)) .writer) e in
+        tale-of (w .image) (w .state .«page_count») f (g .files (w .state .writer .file)) (k .good .sees .recs (w .state .writer .file)) (t .files (w .state .writer .file) (omega (arith, o .file)))
+
+    stored : w .state .writer .active ≡ true → (w .state .writer .page ≡ none → ⊥) → Tells N (ended w (finish-calls.finished w (w .state .writer)) .world) (finishedAs g (w .state .writer .file))
     stored e n =
         record {
-          files = λ i h. subst (λ (j : ℕ). Text img′ j (asFile (recAt (withFile (w .table) (w .state .writer .file) f′) i)) (put-at (g .files) (w .state .writer .file) (g .draft) i)) (sym pc-is) (each i h (ℕ-discrete i (w .state .writer .file)));
+          files = λ i h. subst (λ (j : ℕ). Text img′ j (asFile (recAt (withFile (w .table) (w .state .writer .file) f′) i)) (put-at (g .files) (w .state .writer .file) (drafted g (w .state .writer .file)) i)) (sym pc-is) (each i h (ℕ-discrete i (w .state .writer .file)));
           base = p .base;
           draft = λ on. clash cc;
+          whose = λ on. clash cc;
         }
       where
         img′ : List ℕ
@@ -211,10 +228,11 @@ finish-notes {N} {w} k g t =
         r : Reaches (w .image) (k .base .pc) (firstOf (asFile (recAt (w .table) (w .state .writer .file)))) (stagedPage (w .state .writer))
         r = subst (λ (j : ℕ). Reaches (w .image) (k .base .pc) j (stagedPage (w .state .writer))) (sym first-is) (k .good .rules tt .wr e .chain n)
 
-        new : Text (ran (w .image) (flushStores (w .state .writer))) (k .base .pc) (live (w .state .writer .page) (fileAt (w .table) (w .state .writer .file) .«first_seq») (w .state .writer .seq + w .state .writer .length) (fileAt (w .table) (w .state .writer .file) .flags)) (g .draft)
+        new : Text (ran (w .image) (flushStores (w .state .writer))) (k .base .pc) (live (w .state .writer .page) (fileAt (w .table) (w .state .writer .file) .«first_seq») (w .state .writer .seq + w .state .writer .length) (fileAt (w .table) (w .state .writer .file) .flags)) (drafted g (w .state .writer .file))
         new =
             record {
               size = d .size;
+              starts = tale e .starts ∙ ap (λ (q : FileRecord). q .«first_seq») (sym (file-at (w .table) (w .state .writer .file) l));
               is = λ h s n low high.
                   let z : readable h ≡ readable (stagedHeader (w .state .writer)) = sym s ∙ flush-header m in
                   let y : h ≡ stagedHeader (w .state .writer) = cc in
@@ -223,21 +241,22 @@ finish-notes {N} {w} k g t =
             }
 
         each : (i : ℕ) → i < 8 → Dec (i ≡ w .state .writer .file)
-            → Text (ran (w .image) (flushStores (w .state .writer))) (k .base .pc) (asFile (recAt (withFile (w .table) (w .state .writer .file) (grown (fileAt (w .table) (w .state .writer .file)) (w .state .writer))) i)) (put-at (g .files) (w .state .writer .file) (g .draft) i)
+            → Text (ran (w .image) (flushStores (w .state .writer))) (k .base .pc) (asFile (recAt (withFile (w .table) (w .state .writer .file) (grown (fileAt (w .table) (w .state .writer .file)) (w .state .writer))) i)) (put-at (g .files) (w .state .writer .file) (drafted g (w .state .writer .file)) i)
         each i h (yes z) =
             rw (eq-eqb i (w .state .writer .file) z)
-            (subst (λ (q : File). Text img′ (k .base .pc) q (g .draft))
+            (subst (λ (q : File). Text img′ (k .base .pc) q (drafted g (w .state .writer .file)))
             (sym (ap asFile (ap (recAt (withFile (w .table) (w .state .writer .file) f′)) z ∙ with-at (w .table) (w .state .writer .file) f′ l) ∙ grown-file (fileAt (w .table) (w .state .writer .file)) (w .state .writer) n)) new)
         each i h (no z) =
             rw (ne-eqb i (w .state .writer .file) z)
             (subst (λ (q : FileRecord). Text img′ (k .base .pc) (asFile q) (g .files i)) (sym (with-off (w .table) (w .state .writer .file) f′ l i z)) (p .files i h))
 
-    closed-same : w .state .writer .active ≡ true → w .state .writer .page ≡ none → Tells N (ended w (finish-calls.shut w) .world) (with-files g (put-at (g .files) (w .state .writer .file) (g .draft)))
+    closed-same : w .state .writer .active ≡ true → w .state .writer .page ≡ none → Tells N (ended w (finish-calls.shut w) .world) (finishedAs g (w .state .writer .file))
     closed-same e n =
         record {
           files = λ i h. each i h (ℕ-discrete i (w .state .writer .file));
           base = t .base;
           draft = λ on. clash cc;
+          whose = λ on. clash cc;
         }
       where
         q : Waits (recAt (w .table) (w .state .writer .file)) (w .state .writer)
@@ -246,14 +265,16 @@ finish-notes {N} {w} k g t =
         d : Drafted (w .image) (w .state .«page_count») (firstOf (asFile (recAt (w .table) (w .state .writer .file)))) (w .state .writer) (g .draft)
         d = t .draft e
 
-        new : Text (w .image) (w .state .«page_count») (asFile (recAt (w .table) (w .state .writer .file))) (g .draft)
+        new : Text (w .image) (w .state .«page_count») (asFile (recAt (w .table) (w .state .writer .file))) (drafted g (w .state .writer .file))
         new =
             let ok = k .good .sees .recs (w .state .writer .file) in
             file-by (recAt (w .table) (w .state .writer .file))
-            (λ z y. subst (λ (a : File). Text (w .image) (w .state .«page_count») a (g .draft)) (sym y) (omega (arith, d .size, q .seq, q .length, ok .empty z .last)))
-            (λ z y. subst (λ (a : File). Text (w .image) (w .state .«page_count») a (g .draft)) (sym y)
+            (λ z y. subst (λ (a : File). Text (w .image) (w .state .«page_count») a (drafted g (w .state .writer .file))) (sym y)
+            (record { size = omega (arith, d .size, q .seq, q .length, ok .empty z .last); starts = tale e .starts ∙ ok .empty z .first }))
+            (λ z y. subst (λ (a : File). Text (w .image) (w .state .«page_count») a (drafted g (w .state .writer .file))) (sym y)
             (record {
               size = omega (arith, d .size, q .seq, q .length);
+              starts = tale e .starts;
               is = λ h s n low high.
                   let some : w .state .writer .previous ≡ none → ⊥ = λ j. z (sym (q .previous) ∙ j) in
                   let v : readable (w .state .writer .«previous_header») ≡ readable h = sym (k .good .sees .wr e .stands some) ∙ ap (readAt (w .image)) (q .previous) ∙ s in
@@ -264,6 +285,6 @@ finish-notes {N} {w} k g t =
                   ∙ sym (draft-behind (w .image) (w .state .«page_count») (w .state .writer) n before) ∙ d .is n low′ (omega (arith, q .length));
             }))
 
-        each : (i : ℕ) → i < 8 → Dec (i ≡ w .state .writer .file) → Text (w .image) (w .state .«page_count») (asFile (recAt (w .table) i)) (put-at (g .files) (w .state .writer .file) (g .draft) i)
-        each i h (yes z) = rw (eq-eqb i (w .state .writer .file) z) (subst (λ (j : ℕ). Text (w .image) (w .state .«page_count») (asFile (recAt (w .table) j)) (g .draft)) (sym z) new)
+        each : (i : ℕ) → i < 8 → Dec (i ≡ w .state .writer .file) → Text (w .image) (w .state .«page_count») (asFile (recAt (w .table) i)) (put-at (g .files) (w .state .writer .file) (drafted g (w .state .writer .file)) i)
+        each i h (yes z) = rw (eq-eqb i (w .state .writer .file) z) (subst (λ (j : ℕ). Text (w .image) (w .state .«page_count») (asFile (recAt (w .table) j)) (drafted g (w .state .writer .file))) (sym z) new)
         each i h (no z) = rw (ne-eqb i (w .state .writer .file) z) (t .files i h)

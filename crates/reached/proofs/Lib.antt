@@ -10,3 +10,4 @@ pub mod Ledgers
 pub mod Opens
 pub mod Noted
 pub mod Written
+pub mod Power

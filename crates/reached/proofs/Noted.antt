@@ -8,7 +8,7 @@ use Rattle.transact.specs.Rename.{changedTable, rename, swapped}
 use Rattle.transact.specs.Truncate.{dirtied}
 use Rattle.transact.specs.Commit.{commit}
 use Rattle.volume.specs.Mount.{good}
-use Rattle.reached.specs.Ledger.{Ledger, put-at, with-files}
+use Rattle.reached.specs.Ledger.{Noted, Ledger, put-at, with-files}
 use Prim.Native.Nat.{ℕ, _≤_, _<_}
 use mathlib.Core.Path.{_≡_, refl, sym, ap, subst, _∙_}
 use mathlib.Core.Bool.{Bool, true, false, cond}
@@ -47,7 +47,7 @@ use Rattle.runs.proofs.Laws.{tab}
 
 -- ---- FLAGS
 
-flagged-text : (img : List ℕ) (count : ℕ) (f : FileRecord) (n : ℕ) (l : List ℕ) → Text img count (asFile f) l → Text img count (asFile (flagged f n)) l
+flagged-text : (img : List ℕ) (count : ℕ) (f : FileRecord) (n : ℕ) (l : Noted) → Text img count (asFile f) l → Text img count (asFile (flagged f n)) l
 unfolding flagged asFile
 flagged-text img count f n l = by (eqb (f .«last_page») none) refl (eqb (f .flags) n)
   where
@@ -65,9 +65,9 @@ flags-quiet {w = w} g i n =
     (λ h. let i8 : i < 8 = omega (arith, h .known) in
     subst (λ (c : Bool). Silent w (changedTable w (cond c (withFile (w .table) i (flagged (fileAt (w .table) i) n)) (w .table)))) (sym (lt-ltb i 8 i8))
     (subst (λ (f : FileRecord). Silent w (changedTable w (withFile (w .table) i (flagged f n)))) (sym (file-at (w .table) i (in-table g (h .known))))
-    (record { image = refl; count = refl; files = λ j hj l t. each (in-table g (h .known)) j l t (ℕ-discrete j i); draft = λ e. clash (cc (h .idle)) })))
+    (record { image = refl; count = refl; files = λ j hj l t. each (in-table g (h .known)) j l t (ℕ-discrete j i); draft = λ e. clash (cc (h .idle)); whose = λ e. clash (cc (h .idle)) })))
   where
-    each : i < length (w .table .files) → (j : ℕ) (l : List ℕ) → Text (w .image) (w .state .«page_count») (asFile (recAt (w .table) j)) l → Dec (j ≡ i)
+    each : i < length (w .table .files) → (j : ℕ) (l : Noted) → Text (w .image) (w .state .«page_count») (asFile (recAt (w .table) j)) l → Dec (j ≡ i)
         → Text (w .image) (w .state .«page_count») (asFile (recAt (withFile (w .table) i (flagged (recAt (w .table) i) n)) j)) l
     each k j l t (yes z) =
         subst (λ (f : FileRecord). Text (w .image) (w .state .«page_count») (asFile f) l) (sym (ap (recAt (withFile (w .table) i (flagged (recAt (w .table) i) n))) z ∙ with-at (w .table) i (flagged (recAt (w .table) i) n) k))
@@ -81,7 +81,7 @@ unfolding dirtied asFile
 dirtied-is f = refl
 
 -- one record set, and its list
-pub set-text : (img : List ℕ) (count : ℕ) (t : Table) (i : ℕ) (f : FileRecord) (h : i < length (t .files)) (g : ℕ → List ℕ) (l : List ℕ) → Text img count (asFile f) l
+pub set-text : (img : List ℕ) (count : ℕ) (t : Table) (i : ℕ) (f : FileRecord) (h : i < length (t .files)) (g : ℕ → Noted) (l : Noted) → Text img count (asFile f) l
     → ((j : ℕ) → j < 8 → Text img count (asFile (recAt t j)) (g j)) → (j : ℕ) → j < 8 → Text img count (asFile (recAt (withFile t i f) j)) (put-at g i l j)
 set-text img count t i f h g l a b j k = go (ℕ-discrete j i)
   where
@@ -109,6 +109,7 @@ rename-notes {N} {w} k g t i j =
           (subst (λ (f : File). Text (w .image) (w .state .«page_count») f (g .files j)) (sym (dirtied-is (fileAt T j) ∙ ap asFile a)) (t .files j (omega arith))) (t .files));
       base = t .base;
       draft = λ on. clash (cc (h .idle));
+      whose = λ on. clash (cc (h .idle));
     }))
   where
     L : Ledger
@@ -116,7 +117,7 @@ rename-notes {N} {w} k g t i j =
 
 -- ---- COMMIT
 
-frame-back : (img img′ : List ℕ) {pc : ℕ} {f : File} {own : ℕ → Owner} {i : ℕ} (l : List ℕ) → FileAt (view img′) pc f own i → ((x : ℕ) → own x ≡ st.file i → pageOf img x ≡ pageOf img′ x) → Text img pc f l → Text img′ pc f l
+frame-back : (img img′ : List ℕ) {pc : ℕ} {f : File} {own : ℕ → Owner} {i : ℕ} (l : Noted) → FileAt (view img′) pc f own i → ((x : ℕ) → own x ≡ st.file i → pageOf img x ≡ pageOf img′ x) → Text img pc f l → Text img′ pc f l
 frame-back img img′ {pc} {f} {own} {i} l a h t = by f refl t
   where
     by : (g : File) → f ≡ g → Text img pc g l → Text img′ pc g l
@@ -126,6 +127,7 @@ frame-back img img′ {pc} {f} {own} {i} l a h t = by f refl t
         let p-mine = a .mine p (walk-head u) in
         record {
           size = t .size;
+          starts = t .starts;
           is = λ d s n low high.
               let s₀ : readAt img p ≡ readable d = ap headerOf (h p p-mine) ∙ s in
               let r : FileRecord = record { dirty = false; «last_page» = p; header = d; «first_seq» = first; «last_seq» = last; flags = k } in
@@ -134,13 +136,13 @@ frame-back img img′ {pc} {f} {own} {i} l a h t = by f refl t
               sym (bytes-kept img′ img pc r n (z .last) (z .ends) (λ x m. h x (a .mine x (shorter-sub c x (subst (Mem x) (z .pages) m))))) ∙ t .is d s₀ n low high;
         }
 
-pub commit-notes : {N : ℕ} {w : World} (k : Known (Unit {0}) N w) (g : Ledger) → Tells N w g → Notes N w g (record { files = g .files; committed = g .files; draft = g .draft }) (commit w)
+pub commit-notes : {N : ℕ} {w : World} (k : Known (Unit {0}) N w) (g : Ledger) → Tells N w g → Notes N w g (record { files = g .files; committed = g .files; opened = g .opened; draft = g .draft }) (commit w)
 commit-notes {N} {w} k g t = by (commit w .answer) refl
   where
     C : Commits (Unit {0}) N w (commit w)
     C = commit-keeps (k .good)
 
-    by : (a : Done) → commit w .answer ≡ a → Tells N (ended w (commit w) .world) (onDone a (λ why. g) (record { files = g .files; committed = g .files; draft = g .draft }))
+    by : (a : Done) → commit w .answer ≡ a → Tells N (ended w (commit w) .world) (onDone a (λ why. g) (record { files = g .files; committed = g .files; opened = g .opened; draft = g .draft }))
     by (Refused why) e = subst (λ (v : World). Tells N v g) (sym (commit-keeps (k .good) .stays why e)) t
     by Fine e =
         record {
@@ -151,6 +153,7 @@ commit-notes {N} {w} k g t = by (commit w .answer) refl
               let s = mounted-one (commit-keeps (k .good) .known .good .inv .mounted) M in
               subst (λ (c : ℕ). Text img′ c (b₂ .tab i) (g .files i)) (s .pc) (subst (λ (f : File). Text img′ (commit-keeps (k .good) .known .base .pc) f (g .files i)) (tab-is (k .good) e i ∙ s .tab i) (text i h));
           draft = λ on. clash (cc (commit-keeps (k .good) .idle e));
+          whose = λ on. clash (cc (commit-keeps (k .good) .idle e));
         }
       where
         img′ : List ℕ

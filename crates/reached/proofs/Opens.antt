@@ -26,22 +26,22 @@ use Rattle.state.specs.declared.types.FileRecord.{FileRecord}
 use Rattle.state.specs.declared.types.Done.{Done}
 use Rattle.chain.specs.declared.PagePointer.{PagePointer}
 use Rattle.reached.specs.Asked.{writer, byte, byteBy}
-use Rattle.reached.specs.Ledger.{Ledger, with-draft, draftAt}
+use Rattle.reached.specs.Ledger.{Noted, Ledger, with-draft, draftAt}
 use Rattle.reached.proofs.Demand3.{part-at}
 use Rattle.reached.proofs.Drafts.{walk-here, draft-staged, draft-behind, Drafted, placed-within}
 use Rattle.reached.proofs.Ledgers.{Notes}
-use Rattle.reached.proofs.Tells.{byteFrom, Text, Tells}
+use Rattle.reached.proofs.Tells.{byteFrom, Tells, Tale, tale-of}
 use Rattle.agree.specs.Good.{RecordOk, Known}
 use Rattle.agree.specs.Rules.{Reaches}
 use Rattle.agree.specs.View.{asFile, recAt}
 use Rattle.agree.proofs.Finish.{numbers}
 use Rattle.agree.proofs.Keeps.{cond-by, checked-by, known, in-table}
 use Rattle.agree.proofs.Open.{ready-file, copy-file}
-use Rattle.agree.proofs.Records.{file-live, file-by, file-at, file-end}
+use Rattle.agree.proofs.Records.{file-live, file-at, file-end}
 use Rattle.agree.proofs.Ruling.{record-chain, stays-far}
 use Rattle.agree.proofs.Writes.{some}
 use Rattle.owners.specs.State.{firstOf, lastOf}
-use Rattle.owners.specs.Store.{File, limit}
+use Rattle.owners.specs.Store.{limit}
 use Rattle.page.specs.Page.{pageOf, readable, holds}
 use Rattle.page.proofs.Headers.{header-bounds, header-there, holds-in}
 use Rattle.page.proofs.Laws.{page-length}
@@ -55,18 +55,7 @@ use Rattle.chain.proofs.Written.{image}
 use Rattle.map.specs.Map.{steps}
 use Rattle.runs.proofs.Laws.{length-part}
 
--- a file's list, said of its record
-pub record Tale (img : List ℕ) (count : ℕ) (f : FileRecord) (l : List ℕ) : Type 0 where
-  pub size : length l ≡ f .«last_seq»
-  pub is : (f .«last_page» ≡ none → ⊥) → (n : ℕ) → f .«first_seq» ≤ n → n < f .«last_seq» → byteFrom img count (files.lastOf f) n ≡ byte (getD l n 0)
-
-pub tale-of : (img : List ℕ) (count : ℕ) (f : FileRecord) (l : List ℕ) → RecordOk img f → Text img count (asFile f) l → Tale img count f l
-tale-of img count f l k t =
-    file-by f
-    (λ z e. let u = subst (λ (y : File). Text img count y l) e t in record { size = u ∙ sym (k .empty z .last); is = λ n. absurd (n z) })
-    (λ z e. let u = subst (λ (y : File). Text img count y l) e t in record { size = u .size; is = λ n. u .is (f .header) (k .stands z) })
-
-ready-drafted : (img : List ℕ) (count i first : ℕ) (f : FileRecord) (l : List ℕ) → Tale img count f l → f .«first_seq» ≤ first → (f .«last_page» ≡ none → f .«last_seq» ≡ 0) → Drafted img count first (readyWriter i f) l
+ready-drafted : (img : List ℕ) (count i first : ℕ) (f : FileRecord) (l : Noted) → Tale img count f l → f .«first_seq» ≤ first → (f .«last_page» ≡ none → f .«last_seq» ≡ 0) → Drafted img count first (readyWriter i f) (l .bytes)
 unfolding readyWriter
 ready-drafted img count i first f l t h none-end =
     record {
@@ -74,10 +63,10 @@ ready-drafted img count i first f l t h none-end =
       is = λ n low high. draft-behind img count (readyWriter i f) n (omega arith) ∙ t .is (λ z. omega (arith, none-end z)) n (omega arith) (omega arith);
     }
 
-module _ (img : List ℕ) (count i first : ℕ) (f : FileRecord) (q : PagePointer) (p : ℕ) (l : List ℕ) (t : Tale img count f l) (n-first : first ≡ f .«first_seq») (some : f .«last_page» ≡ none → ⊥)
+module _ (img : List ℕ) (count i first : ℕ) (f : FileRecord) (q : PagePointer) (p : ℕ) (l : Noted) (t : Tale img count f l) (n-first : first ≡ f .«first_seq») (some : f .«last_page» ≡ none → ⊥)
     (stands : readAt img (f .«last_page») ≡ readable (f .header)) (end-is : f .header .seq + f .header .length ≡ f .«last_seq»)
     (behind : (n : ℕ) → f .«first_seq» ≤ n → n < f .header .seq → byteFrom img count (files.lastOf f) n ≡ byteFrom img count q n) where
-  copy-drafted : Drafted img count first (copyWriter img i f q p) l
+  copy-drafted : Drafted img count first (copyWriter img i f q p) (l .bytes)
   unfolding copyWriter
   copy-drafted =
       record {
@@ -107,7 +96,7 @@ module _ {N : ℕ} {w : World} (k : Known (Unit {0}) N w) (g : Ledger) (t : Tell
   pc = w .state .«page_count»
 
   abbrev P : Outcome Done → Type 0
-  P o = Notes N w g (with-draft g (g .files i)) o
+  P o = Notes N w g (with-draft g i (g .files i .bytes)) o
 
   ok : RecordOk (w .image) (recAt (w .table) i)
   ok = k .good .sees .recs i
@@ -118,14 +107,15 @@ module _ {N : ℕ} {w : World} (k : Known (Unit {0}) N w) (g : Ledger) (t : Tell
   first-is : firstOf (asFile (recAt (w .table) i)) ≡ recAt (w .table) i .«first_seq»
   first-is = numbers (w .image) f ok .0
 
-  readied-notes : Notes N w g (with-draft g (g .files i)) (readied w i (recAt (w .table) i))
+  readied-notes : Notes N w g (with-draft g i (g .files i .bytes)) (readied w i (recAt (w .table) i))
   unfolding withWriter
   readied-notes =
       record {
         files = t .files;
         base = t .base;
-        draft = λ on. subst (λ (j : ℕ). Drafted (w .image) pc (firstOf (asFile (recAt (w .table) j))) (readyWriter i f) (g .files i)) (sym (ready-file i f))
+        draft = λ on. subst (λ (j : ℕ). Drafted (w .image) pc (firstOf (asFile (recAt (w .table) j))) (readyWriter i f) (g .files i .bytes)) (sym (ready-file i f))
             (ready-drafted (w .image) pc i (firstOf (asFile f)) f (g .files i) tale (omega (arith, first-is)) (λ z. ok .empty z .last));
+        whose = λ on. sym (ready-file i f);
       }
 
   module _ (some : recAt (w .table) i .«last_page» ≡ none → ⊥) where
@@ -139,15 +129,16 @@ module _ {N : ℕ} {w : World} (k : Known (Unit {0}) N w) (g : Ledger) (t : Tell
     end-is = file-end (w .image) f (file-live f some) (k .good .inv .files i .ok) stands
 
     to-notes : (q : PagePointer) → ((n : ℕ) → recAt (w .table) i .«first_seq» ≤ n → n < recAt (w .table) i .header .seq → byteFrom (w .image) (w .state .«page_count») (files.lastOf (recAt (w .table) i)) n ≡ byteFrom (w .image) (w .state .«page_count») q n)
-        → (a : Alloc) → Notes N w g (with-draft g (g .files i)) (copiedTo w i (recAt (w .table) i) q a)
+        → (a : Alloc) → Notes N w g (with-draft g i (g .files i .bytes)) (copiedTo w i (recAt (w .table) i) q a)
     unfolding withWriter withCursor
     to-notes q h Full = t
     to-notes q h (Page p) =
         record {
           files = t .files;
           base = t .base;
-          draft = λ on. subst (λ (j : ℕ). Drafted (w .image) pc (firstOf (asFile (recAt (w .table) j))) (copyWriter (w .image) i f q p) (g .files i)) (sym (copy-file (w .image) i f q p))
+          draft = λ on. subst (λ (j : ℕ). Drafted (w .image) pc (firstOf (asFile (recAt (w .table) j))) (copyWriter (w .image) i f q p) (g .files i .bytes)) (sym (copy-file (w .image) i f q p))
               (copy-drafted (w .image) pc i (firstOf (asFile f)) f q p (g .files i) tale first-is some stands end-is h);
+          whose = λ on. sym (copy-file (w .image) i f q p);
         }
 
     behind-q : (q : PagePointer) → step (backRule (k .base .pc) (recAt (w .table) i .«first_seq»)) (readAt (w .image)) (files.lastOf (recAt (w .table) i)) ≡ reaches q → recAt (w .table) i .«first_seq» < recAt (w .table) i .header .seq
@@ -164,7 +155,7 @@ module _ {N : ℕ} {w : World} (k : Known (Unit {0}) N w) (g : Ledger) (t : Tell
             let b = walk-chain (k .base .pc) 224 (omega arith) (readAt (w .image)) n q′ l (record { linked = c .linked .1; stand = c .stand .1 }) (omega arith) .0 in
             ap (byteBy (w .image) n) (a ∙ sym b) ∙ ap (λ (x : PagePointer). byteFrom (w .image) (k .base .pc) x n) y
 
-    copied-notes : (s : steps.Stepped) → stepFrom w (recAt (w .table) i) ≡ s → Notes N w g (with-draft g (g .files i)) (copied w i (recAt (w .table) i) s)
+    copied-notes : (s : steps.Stepped) → stepFrom w (recAt (w .table) i) ≡ s → Notes N w g (with-draft g i (g .files i .bytes)) (copied w i (recAt (w .table) i) s)
     copied-notes breaks e = t
     copied-notes stays e =
         let r = backRule pc (f .«first_seq») in
@@ -181,7 +172,7 @@ module _ {N : ℕ} {w : World} (k : Known (Unit {0}) N w) (g : Ledger) (t : Tell
         to-notes q (λ n a b. subst (λ (c : ℕ). byteFrom (w .image) c (files.lastOf f) n ≡ byteFrom (w .image) c q n) (sym pc-is)
         (behind-q q (ap (λ (c : ℕ). step (backRule c (f .«first_seq»)) (readAt (w .image)) (files.lastOf f)) (sym pc-is) ∙ e) (u .0) n a b)) (allocOf (w .map) pc (w .state .cursor))
 
-  in-notes : Notes N w g (with-draft g (g .files i)) (openIn w i (recAt (w .table) i))
+  in-notes : Notes N w g (with-draft g i (g .files i .bytes)) (openIn w i (recAt (w .table) i))
   unfolding openIn openLast
   in-notes =
       cond-by P (ltb seq-specs.limit (f .«last_seq»)) _ _ (λ e. t)
@@ -191,8 +182,8 @@ module _ {N : ℕ} {w : World} (k : Known (Unit {0}) N w) (g : Ledger) (t : Tell
       (λ l. cond-by P (tooFew (w .map) pc 1) _ _ (λ s. t)
       (λ s. cond-by P (inShape pc f) _ _ (λ s. copied-notes (eqb-false (f .«last_page») none e) (stepFrom w f) refl) (λ s. t)))))
 
-pub open-notes : {N : ℕ} {w : World} (k : Known (Unit {0}) N w) (g : Ledger) → Tells N w g → (i : ℕ) → Notes N w g (with-draft g (g .files i)) (openWriter w i)
+pub open-notes : {N : ℕ} {w : World} (k : Known (Unit {0}) N w) (g : Ledger) → Tells N w g → (i : ℕ) → Notes N w g (with-draft g i (g .files i .bytes)) (openWriter w i)
 unfolding openWriter
 open-notes {N} {w} k g t i =
-    checked-by (Notes N w g (with-draft g (g .files i))) w (w .state .writer .active) i _ _ (λ why. t)
-    (λ h. subst (λ (f : FileRecord). Notes N w g (with-draft g (g .files i)) (openIn w i f)) (sym (file-at (w .table) i (in-table (k .good) (h .known)))) (in-notes k g t i (h .known)))
+    checked-by (Notes N w g (with-draft g i (g .files i .bytes))) w (w .state .writer .active) i _ _ (λ why. t)
+    (λ h. subst (λ (f : FileRecord). Notes N w g (with-draft g i (g .files i .bytes)) (openIn w i f)) (sym (file-at (w .table) i (in-table (k .good) (h .known)))) (in-notes k g t i (h .known)))

@@ -11,12 +11,15 @@ use Rattle.calls.specs.Calls.{Call, step, starts, goes, FromEither}
 use Prim.Native.Nat.{ℕ}
 use mathlib.Core.Path.{_≡_, refl, sym, subst}
 use mathlib.Core.Bool.{Bool, true, false}
-use mathlib.Core.Logic.{inl, inr}
+use mathlib.Core.Logic.{_⊎_, inl, inr}
 use mathlib.Core.List.{map}
 use lib.ListN.{length}
 use Rattle.state.specs.declared.types.Done.{Done}
+use native.Mathlib.Omega.{arith}
+use Rattle.reached.specs.Asked.{Whole}
 use Rattle.agree.specs.Good.{Known}
 use Rattle.agree.proofs.Commit.{commit-keeps}
+use Rattle.agree.proofs.Counts.{good-mounted}
 use Rattle.agree.proofs.Finish.{finish-keeps, discard-keeps}
 use Rattle.agree.proofs.Format.{format-known}
 use Rattle.agree.proofs.Idle.{open-stays, write-stays, record-end-stays, finish-stays, discard-stays, truncate-stays, rename-stays, flags-stays, commit-stays, start-stays, answered-stays}
@@ -29,7 +32,7 @@ use Rattle.agree.proofs.Writes.{write-keeps}
 use Rattle.page.specs.Page.{Bytes}
 use Rattle.state.specs.Checks.{sizes, isMounted}
 use Rattle.state.specs.Values.{unmounted}
-use Rattle.state.proofs.Laws.{sizes-say}
+use Rattle.state.proofs.Laws.{sizes-say, mounted-says}
 use Rattle.chain.specs.Steps.{seek}
 use Rattle.chain.proofs.Seeks.{right}
 use Rattle.chain.proofs.Written.{image}
@@ -37,6 +40,7 @@ use Rattle.chain.proofs.Written.{image}
 pub record Sound (w : World) : Type 0 where
   pub bytes : Bytes (w .image)
   pub mounted : isMounted (w .state) ≡ true → Known ⊥ (length (w .map)) w
+  pub else : (isMounted (w .state) ≡ true) ⊎ (w .state ≡ unmounted (w .state .seed))
 
 -- an invariant says so
 pub known-sound : {N : ℕ} {w : World} → Known ⊥ N w → Sound w
@@ -44,6 +48,7 @@ known-sound {N} {w} k =
     record {
       bytes = k .good .sees .bytes;
       mounted = λ e. subst (λ (n : ℕ). Known ⊥ n w) (sym (k .good .sees .owners .size)) k;
+      else = inl (good-mounted (k .good));
     }
 
 -- a call that keeps the invariant, and leaves the world as it was where nothing is mounted
@@ -75,13 +80,17 @@ unmounted-is : (seed : ℕ) → isMounted (unmounted seed) ≡ false
 unfolding isMounted unmounted
 unmounted-is seed = refl
 
+unmounted-seed : (seed : ℕ) → unmounted seed ≡ unmounted (unmounted seed .seed)
+unfolding unmounted
+unmounted-seed seed = refl
+
 best-sound : (w : World) → Bytes (w .image) → sizes (length (w .image)) (length (w .map)) ≡ true → Sound (ended w (volume-mount.mountBest w (scan (w .image) (length (w .map)))) .world)
 unfolding volume-mount.mountBest
 best-sound w bs e = by (volume-mount.mountFrom (w .image) (length (w .map)) (scan (w .image) (length (w .map)))) refl
   where
     by : (x : Maybe LoadedAll) → volume-mount.mountFrom (w .image) (length (w .map)) (scan (w .image) (length (w .map))) ≡ x
         → Sound (ended w (volume-mount.mountedAs w (length (w .map)) (seedAfter (w .state .seed)) (scan (w .image) (length (w .map))) x) .world)
-    by bad h = record { bytes = bs; mounted = λ k. clash (cc (unmounted-is (w .state .seed))) }
+    by bad h = record { bytes = bs; mounted = λ k. clash (cc (unmounted-is (w .state .seed))); else = inr (unmounted-seed (w .state .seed)) }
     by (good x) h = let z = sizes-say (length (w .image)) (length (w .map)) e in known-sound (mount-known ⊥ w bs (length (w .map)) (seedAfter (w .state .seed)) x (λ d. absurd d) (z .2) (z .0) (z .1) h)
 
 pub mount-sound : (w : World) → Sound w → Sound (result volume-mount.mount w .world)
@@ -116,6 +125,13 @@ step-sound (calls.truncate i n) w s = kept-sound w _ s (λ e. truncate-stays w e
 step-sound (calls.rename i j) w s = kept-sound w _ s (λ e. rename-stays w e i j) (λ k. rename-keeps (k .good) i j)
 step-sound (calls.flags i n ok) w s = kept-sound w _ s (λ e. flags-stays w e i n) (λ k. flags-keeps (k .good) i n ok)
 step-sound calls.commit w s = kept-sound w _ s (λ e. commit-stays w e) (λ k. commit-keeps (k .good) .known)
+
+-- while mounted, nothing is missing
+pub sound-whole : {w : World} → Sound w → isMounted (w .state) ≡ true → Whole w
+sound-whole {w} s e =
+    let g = s .mounted e .good .sees in
+    let m = mounted-says (w .state) e in
+    record { image = g .size; count = omega (arith, m .inside, g .pages); table = g .eight }
 
 -- demand 2's worlds, and demand 3's
 pub either-sound : {w : World} → FromEither w → Sound w

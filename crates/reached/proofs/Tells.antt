@@ -2,6 +2,7 @@
 use Rattle.state.specs.World.{World, Outcome, ended}
 use Rattle.state.specs.declared.types.Writer as state-writer
 use Rattle.chain.specs.Files.{lastOf}
+use Rattle.seq.specs.Ids.{none}
 use Rattle.owners.specs.Store as st
 use Rattle.writer.specs.Staging.{recordEnded, previousOf}
 use Rattle.writer.specs.Write.{recordEnd}
@@ -19,12 +20,14 @@ use Rattle.page.specs.declared.DataHeader.{DataHeader}
 use Rattle.state.specs.declared.types.FileRecord.{FileRecord}
 use Rattle.chain.specs.declared.PagePointer.{PagePointer}
 use Rattle.reached.specs.Asked.{file, writer, Byte, byte, byteBy}
-use Rattle.reached.specs.Ledger.{Ledger, draftAt}
+use Rattle.reached.specs.Ledger.{Noted, Ledger, draftAt}
 use Rattle.reached.proofs.Demand2.{bytes-kept}
 use Rattle.reached.proofs.Drafts.{Drafted}
 use Rattle.agree.specs.View.{view, asFile, recAt}
 use Rattle.agree.proofs.Keeps.{cond-by, checked-by}
 use Rattle.agree.proofs.Pages.{clash}
+use Rattle.agree.specs.Good.{RecordOk}
+use Rattle.agree.proofs.Records.{file-by}
 use Rattle.agree.proofs.Walking.{walk-complete, file-walk}
 use Rattle.owners.specs.State.{Base, Mounted, Writer, firstOf, Back}
 use Rattle.owners.specs.Store.{File, gone, live, Owner, Mem, FileAt}
@@ -42,23 +45,42 @@ use Rattle.runs.proofs.Laws.{tab}
 abbrev pub byteFrom : List ℕ → ℕ → PagePointer → ℕ → Byte
 byteFrom img count p n = byteBy img n (walk count (readAt img) n p .ends)
 
--- a file's bytes are those of a list, by their numbers
-pub record Spells (img : List ℕ) (count p first last : ℕ) (l : List ℕ) : Type 0 where
-  pub size : length l ≡ last
-  pub is : (h : DataHeader) → readAt img p ≡ readable h → (n : ℕ) → first ≤ n → n < last → byteFrom img count (record { «page_id» = p; header = h }) n ≡ byte (getD l n 0)
+-- a file is as noted: its first number, and its bytes by their numbers
+pub record Spells (img : List ℕ) (count p first last : ℕ) (l : Noted) : Type 0 where
+  pub size : length (l .bytes) ≡ last
+  pub starts : l .first ≡ first
+  pub is : (h : DataHeader) → readAt img p ≡ readable h → (n : ℕ) → first ≤ n → n < last → byteFrom img count (record { «page_id» = p; header = h }) n ≡ byte (getD (l .bytes) n 0)
 
-abbrev pub Text : List ℕ → ℕ → File → List ℕ → Type 0
-Text img count gone l = length l ≡ 0
+-- an empty one
+pub record Bare (l : Noted) : Type 0 where
+  pub size : length (l .bytes) ≡ 0
+  pub starts : l .first ≡ 0
+
+abbrev pub Text : List ℕ → ℕ → File → Noted → Type 0
+Text img count gone l = Bare l
 Text img count (live p a e g) l = Spells img count p a e l
+
+-- the same, said of its record
+pub record Tale (img : List ℕ) (count : ℕ) (f : FileRecord) (l : Noted) : Type 0 where
+  pub size : length (l .bytes) ≡ f .«last_seq»
+  pub starts : l .first ≡ f .«first_seq»
+  pub is : (f .«last_page» ≡ none → ⊥) → (n : ℕ) → f .«first_seq» ≤ n → n < f .«last_seq» → byteFrom img count (lastOf f) n ≡ byte (getD (l .bytes) n 0)
+
+pub tale-of : (img : List ℕ) (count : ℕ) (f : FileRecord) (l : Noted) → RecordOk img f → Text img count (asFile f) l → Tale img count f l
+tale-of img count f l k t =
+    file-by f
+    (λ z e. let u = subst (λ (y : File). Text img count y l) e t in record { size = u .size ∙ sym (k .empty z .last); starts = u .starts ∙ sym (k .empty z .first); is = λ n. absurd (n z) })
+    (λ z e. let u = subst (λ (y : File). Text img count y l) e t in record { size = u .size; starts = u .starts; is = λ n. u .is (f .header) (k .stands z) })
 
 pub record Tells (N : ℕ) (w : World) (g : Ledger) : Type 0 where
   pub files : (i : ℕ) → i < 8 → Text (w .image) (w .state .«page_count») (asFile (recAt (w .table) i)) (g .files i)
   pub base : (b : Base) → Mounted N (view (w .image)) b → (i : ℕ) → i < 8 → Text (w .image) (b .pc) (b .tab i) (g .committed i)
   pub draft : w .state .writer .active ≡ true → Drafted (w .image) (w .state .«page_count») (firstOf (asFile (recAt (w .table) (w .state .writer .file)))) (w .state .writer) (g .draft)
+  pub whose : w .state .writer .active ≡ true → g .opened ≡ w .state .writer .file
 
 -- ---- framing
 
-pub text-frame : (img img′ : List ℕ) {pc : ℕ} {f : File} {own : ℕ → Owner} {i : ℕ} (l : List ℕ) → FileAt (view img) pc f own i → ((x : ℕ) → own x ≡ st.file i → pageOf img′ x ≡ pageOf img x) → Text img pc f l → Text img′ pc f l
+pub text-frame : (img img′ : List ℕ) {pc : ℕ} {f : File} {own : ℕ → Owner} {i : ℕ} (l : Noted) → FileAt (view img) pc f own i → ((x : ℕ) → own x ≡ st.file i → pageOf img′ x ≡ pageOf img x) → Text img pc f l → Text img′ pc f l
 text-frame img img′ {pc} {f} {own} {i} l a h t = by f refl t
   where
     by : (g : File) → f ≡ g → Text img pc g l → Text img′ pc g l
@@ -68,6 +90,7 @@ text-frame img img′ {pc} {f} {own} {i} l a h t = by f refl t
         let p-mine = a .mine p (walk-head u) in
         record {
           size = t .size;
+          starts = t .starts;
           is = λ d s n low high.
               let s₀ : readAt img p ≡ readable d = sym (ap headerOf (h p p-mine)) ∙ s in
               let r : FileRecord = record { dirty = false; «last_page» = p; header = d; «first_seq» = first; «last_seq» = last; flags = k } in
@@ -77,7 +100,7 @@ text-frame img img′ {pc} {f} {own} {i} l a h t = by f refl t
         }
 
 -- other flags
-pub text-flags : (img : List ℕ) (count p a e g g′ : ℕ) (l : List ℕ) → Text img count (live p a e g) l → Text img count (live p a e g′) l
+pub text-flags : (img : List ℕ) (count p a e g g′ : ℕ) (l : Noted) → Text img count (live p a e g) l → Text img count (live p a e g′) l
 text-flags img count p a e g g′ l t = t
 
 -- ---- calls that change no byte and no file
@@ -85,10 +108,11 @@ text-flags img count p a e g g′ l t = t
 pub record Quiet (w w′ : World) : Type 0 where
   pub image : w′ .image ≡ w .image
   pub count : w′ .state .«page_count» ≡ w .state .«page_count»
-  pub files : (i : ℕ) → i < 8 → (l : List ℕ) → Text (w .image) (w .state .«page_count») (asFile (recAt (w .table) i)) l → Text (w .image) (w .state .«page_count») (asFile (recAt (w′ .table) i)) l
+  pub files : (i : ℕ) → i < 8 → (l : Noted) → Text (w .image) (w .state .«page_count») (asFile (recAt (w .table) i)) l → Text (w .image) (w .state .«page_count») (asFile (recAt (w′ .table) i)) l
   pub draft : w′ .state .writer .active ≡ true → (l : List ℕ)
       → (w .state .writer .active ≡ true → Drafted (w .image) (w .state .«page_count») (firstOf (asFile (recAt (w .table) (w .state .writer .file)))) (w .state .writer) l)
       → Drafted (w .image) (w .state .«page_count») (firstOf (asFile (recAt (w′ .table) (w′ .state .writer .file)))) (w′ .state .writer) l
+  pub whose : w′ .state .writer .active ≡ true → (w .state .writer .active ≡ true) × (w′ .state .writer .file ≡ w .state .writer .file)
 
 pub tells-quiet : {N : ℕ} {w w′ : World} (g : Ledger) → Quiet w w′ → Tells N w g → Tells N w′ g
 tells-quiet {N} {w} {w′} g q t =
@@ -98,17 +122,18 @@ tells-quiet {N} {w} {w′} g q t =
       base = subst (λ (x : List ℕ). (b : Base) → Mounted N (view x) b → (i : ℕ) → i < 8 → Text x (b .pc) (b .tab i) (g .committed i)) (sym (q .image)) (t .base);
       draft = λ e. subst (λ (x : List ℕ). Drafted x (w′ .state .«page_count») (firstOf (asFile (recAt (w′ .table) (w′ .state .writer .file)))) (w′ .state .writer) (g .draft)) (sym (q .image))
           (subst (λ (c : ℕ). Drafted (w .image) c (firstOf (asFile (recAt (w′ .table) (w′ .state .writer .file)))) (w′ .state .writer) (g .draft)) (sym (q .count)) (q .draft e (g .draft) (t .draft)));
+      whose = λ e. let z = q .whose e in t .whose (z .0) ∙ sym (z .1);
     }
 
 abbrev pub Silent : {A : Type 0} → World → Outcome A → Type 0
 Silent w o = Quiet w (ended w o .world)
 
 pub quiet-same : (w : World) → Quiet w w
-quiet-same w = record { image = refl; count = refl; files = λ i h l t. t; draft = λ e l t. t e }
+quiet-same w = record { image = refl; count = refl; files = λ i h l t. t; draft = λ e l t. t e; whose = λ e. (e, refl) }
 
 search-quiet : (w : World) (q : Search) → Quiet w (record { image = w .image; map = w .map; table = w .table; state = withSearch (w .state) q })
 unfolding withSearch
-search-quiet w q = record { image = refl; count = refl; files = λ i h l t. t; draft = λ e l t. t e }
+search-quiet w q = record { image = refl; count = refl; files = λ i h l t. t; draft = λ e l t. t e; whose = λ e. (e, refl) }
 
 sought-quiet : (w : World) (s : search-stand.Stand) → Silent w (search-calls.sought w s)
 unfolding search-calls.sought
@@ -141,7 +166,7 @@ unfolding recordEnd withWriter recordEnded
 record-end-quiet w =
     checked-by (Silent w) w false 0 _ _ (λ why. quiet-same w)
     (λ h. cond-by (Silent w) (w .state .writer .active) _ _
-    (λ e. record { image = refl; count = refl; files = λ i h l t. t; draft = λ on l t. ended-draft (w .image) (w .state .«page_count») (firstOf (asFile (recAt (w .table) (w .state .writer .file)))) (w .state .writer) l (t e) }) (λ e. quiet-same w))
+    (λ e. record { image = refl; count = refl; files = λ i h l t. t; draft = λ on l t. ended-draft (w .image) (w .state .«page_count») (firstOf (asFile (recAt (w .table) (w .state .writer .file)))) (w .state .writer) l (t e); whose = λ on. (e, refl) }) (λ e. quiet-same w))
 
 pub discard-quiet : (w : World) → Silent w (finish-calls.discard w)
 unfolding finish-calls.discard withWriter noWriter
@@ -152,4 +177,4 @@ discard-quiet w =
   where
     by : (y : finish-calls.Back) → Silent w (finish-calls.discardedBy w (w .state .writer) y)
     by finish-calls.lost = quiet-same w
-    by (finish-calls.pages l) = record { image = refl; count = refl; files = λ i h l t. t; draft = λ e l t. clash cc }
+    by (finish-calls.pages l) = record { image = refl; count = refl; files = λ i h l t. t; draft = λ e l t. clash cc; whose = λ e. clash cc }

@@ -2,14 +2,16 @@
 use Rattle.seq.specs.Ids.{none}
 use Rattle.seq.specs.Seed.{seedAfter}
 use Rattle.state.specs.Values.{settled}
-use Rattle.state.specs.World.{World, Outcome, ended, result}
+use Rattle.state.specs.World.{World, Outcome, ended, result, kept}
+use Rattle.state.specs.declared.types.Table.{Table}
+use Rattle.state.specs.declared.types.State.{State}
 use Rattle.chain.specs.Files.{lastOf}
 use Rattle.chain.specs.Steps.{at, damaged}
-use Rattle.transact.specs.Truncate.{dirtied, advanced, newFirst, cut, changedFile, truncatedBy, truncateIn, truncate}
+use Rattle.transact.specs.Truncate.{newFirst, cut, changedFile, truncatedBy, truncateIn, truncate}
 use Rattle.transact.specs.Truncate as truncating
 use Rattle.volume.specs.Format as volume-format
 use Rattle.volume.specs.Mount as volume-mount
-use Rattle.volume.specs.Mount.{Maybe, bad, good, LoadedAll}
+use Rattle.volume.specs.Mount.{good}
 use Rattle.volume.specs.Scan.{scan}
 use Rattle.writer.specs.Open as open-calls
 use Rattle.writer.specs.Write as write-calls
@@ -18,13 +20,12 @@ use Rattle.transact.specs.Rename as rename-calls
 use Rattle.transact.specs.Commit as commit-calls
 use Rattle.search.specs.Search as search-calls
 use Rattle.calls.specs.Calls as calls
-use Rattle.calls.specs.Calls.{Call, step}
-use Rattle.reached.specs.Ledger.{Ledger, nothing, put-at, with-files, note, Written, starts, goes}
-use Rattle.reached.specs.Ledger as ledger
-use Prim.Native.Nat.{ℕ, _*_, _≤_, _<_}
-use mathlib.Core.Path.{_≡_, refl, sym, ap, subst, _∙_, fun-ext}
+use Rattle.calls.specs.Calls.{Call, step, powered}
+use Rattle.reached.specs.Ledger.{Noted, Ledger, blank, nothing, put-at, with-files, advanced, shortened, reverted, note, Written, starts, goes, boots, AsFile, AsNoted}
+use Prim.Native.Nat.{ℕ, _+_, _-_, _*_, _≤_, _<_, min}
+use mathlib.Core.Path.{_≡_, refl, sym, ap, ap₂, subst, _∙_}
 use mathlib.Core.Bool.{Bool, true, false, cond}
-use mathlib.Core.List.{List, [], map}
+use mathlib.Core.List.{List, map}
 use native.Mathlib.Omega.{arith}
 use native.Mathlib.Decide.{ℕ-discrete}
 use lib.ListN.{length, getD}
@@ -33,21 +34,20 @@ use borrow.Author.Tests.{eq-eqb, ne-eqb, eqb-true, eqb-false}
 use Rattle.state.specs.declared.types.FileRecord.{FileRecord}
 use Rattle.state.specs.declared.types.Done.{Done}
 use Rattle.state.specs.declared.types.Done.the-variants.{Done as Fine}
-use Rattle.reached.specs.Asked.{writer, byte, byteAt}
-use Rattle.reached.specs.Ledger.{emptied}
-use Rattle.reached.proofs.Held.{Held, step-held, format-reached}
+use Rattle.reached.specs.Asked.{writer, byteAt}
+use Rattle.reached.proofs.Held.{Held, boots-as, boot-fine, boot-known, boot-held, step-held, format-reached}
 use Rattle.reached.proofs.Ledgers.{Notes, write-notes, finish-notes}
 use Rattle.reached.proofs.Noted.{flags-quiet, set-text, rename-notes, commit-notes}
-use Rattle.reached.proofs.Opens.{tale-of, open-notes}
-use Rattle.reached.proofs.Tells.{byteFrom, Text, Tells, tells-quiet, start-quiet, answered-quiet, record-end-quiet, discard-quiet}
+use Rattle.reached.proofs.Opens.{open-notes}
+use Rattle.reached.proofs.Tells.{Spells, Bare, Text, tale-of, Tells, tells-quiet, start-quiet, answered-quiet, record-end-quiet, discard-quiet}
 use Rattle.agree.specs.Good.{Known}
-use Rattle.agree.specs.View.{asFile, recAt}
+use Rattle.agree.specs.View.{view, asFile, recAt}
+use Rattle.owners.specs.State.{Base, Mounted}
 use Rattle.agree.proofs.Format.{empty-at, format-known}
 use Rattle.agree.proofs.Found.{mount-finds}
 use Rattle.agree.proofs.Keeps.{cond-by, checked-by, known, in-table}
-use Rattle.agree.proofs.Mount.{mount-known}
 use Rattle.agree.proofs.Pages.{clash}
-use Rattle.agree.proofs.Records.{file-gone, file-live, empty-gone, file-at, with-at, with-eight}
+use Rattle.agree.proofs.Records.{file-gone, file-live, empty-gone, file-at}
 use Rattle.agree.proofs.Writes.{some}
 use Rattle.owners.specs.Store.{File, gone}
 use Rattle.owners.proofs.Commit.{idle, committed}
@@ -56,7 +56,7 @@ use Rattle.page.specs.Page.{Bytes}
 use Rattle.page.proofs.Laws.{ran-length}
 use Rattle.state.specs.Checks.{sizes}
 use Rattle.state.specs.Refusals.{onDone}
-use Rattle.state.specs.Values.{emptyRecord, emptyTable, fileAt, withFile, isEmpty, inShape, noWriter, opened, closed}
+use Rattle.state.specs.Values.{emptyRecord, emptyTable, fileAt, isEmpty, inShape, noWriter, opened, closed}
 use Rattle.state.proofs.Laws.{sizes-say}
 use Rattle.chain.specs.Steps.{readAt, Sought, seek, walk}
 use Rattle.chain.proofs.Seeks.{right}
@@ -65,99 +65,94 @@ use Rattle.runs.proofs.Laws.{tab}
 
 -- ---- TRUNCATE
 
-put-same : (f : ℕ → List ℕ) (i : ℕ) → put-at f i (f i) ≡ f
-put-same f i = fun-ext (λ j. go j (ℕ-discrete j i))
-  where
-    go : (j : ℕ) → Dec (j ≡ i) → cond (eqb j i) (f i) (f j) ≡ f j
-    go j (yes z) = rw (eq-eqb j i z) (ap f (sym z))
-    go j (no z) = rw (ne-eqb j i z)
+-- a file of which nothing is noted
+bare-shortened : (n : ℕ) (x : Noted) → Bare x → shortened n x ≡ blank
+bare-shortened n x b =
+    let e : advanced n x ≡ length (x .bytes) = omega (arith, b .size, b .starts) in
+    rw (eq-eqb (advanced n x) (length (x .bytes)) e)
 
--- what a truncation notes, by the record that it leaves
-abbrev emptiedBy : FileRecord → ℕ → Ledger → Ledger
-emptiedBy f i g = cond (eqb (f .«last_page») none) (with-files g (put-at (g .files) i [])) g
-
--- a record set, with its list
-tells-set : {N : ℕ} {w : World} (k : Known (Unit {0}) N w) (g : Ledger) → Tells N w g → w .state .writer .active ≡ false → (i : ℕ) → i < 8 → (m : List ℕ) (f : FileRecord) (l : List ℕ) → Text (w .image) (w .state .«page_count») (asFile f) l
+-- a record set, with what is noted of it
+tells-set : {N : ℕ} {w : World} (k : Known (Unit {0}) N w) (g : Ledger) → Tells N w g → w .state .writer .active ≡ false → (i : ℕ) → i ≤ 7 → (m : List ℕ) (f : FileRecord) (l : Noted) → Text (w .image) (w .state .«page_count») (asFile f) l
     → Tells N (ended w (changedFile w i m f) .world) (with-files g (put-at (g .files) i l))
 unfolding opened
-tells-set {N} {w} k g t off i i8 m f l a =
+tells-set {N} {w} k g t off i i7 m f l a =
     record {
-      files = set-text (w .image) (w .state .«page_count») (w .table) i f (omega (arith, k .good .sees .eight)) (g .files) l a (t .files);
+      files = set-text (w .image) (w .state .«page_count») (w .table) i f (in-table (k .good) i7) (g .files) l a (t .files);
       base = t .base;
       draft = λ on. clash cc;
+      whose = λ on. clash cc;
     }
 
-emptied-at : (w : World) (i : ℕ) (m : List ℕ) (f : FileRecord) (g : Ledger) → i < length (w .table .files) → ledger.emptied (ended w (changedFile w i m f) .world) i g ≡ emptiedBy f i g
-emptied-at w i m f g h =
-    let l : i < length (withFile (w .table) i f .files) = rw (with-eight (w .table) i f h) h in
-    ap (λ (r : FileRecord). emptiedBy r i g) (file-at (withFile (w .table) i f) i l ∙ with-at (w .table) i f h)
-
-tells-emptied : {N : ℕ} {w : World} (g : Ledger) → Tells N w g → (i : ℕ) → i < length (w .table .files) → Tells N w (ledger.emptied w i g)
-tells-emptied {N} {w} g t i h = by (eqb (fileAt (w .table) i .«last_page») none) refl
-  where
-    by : (c : Bool) → eqb (fileAt (w .table) i .«last_page») none ≡ c → Tells N w (cond c (with-files g (put-at (g .files) i [])) g)
-    by false e = t
-    by true e =
-        let z : asFile (recAt (w .table) i) ≡ gone = file-gone (recAt (w .table) i) (ap (λ (r : FileRecord). r .«last_page») (sym (file-at (w .table) i h)) ∙ eqb-true (fileAt (w .table) i .«last_page») none e) in
-        record { files = λ j k. go j k z (ℕ-discrete j i); base = t .base; draft = t .draft }
-      where
-        go : (j : ℕ) → j < 8 → asFile (recAt (w .table) i) ≡ gone → Dec (j ≡ i) → Text (w .image) (w .state .«page_count») (asFile (recAt (w .table) j)) (put-at (g .files) i [] j)
-        go j k z (yes y) = rw (eq-eqb j i y) (subst (λ (f : File). Text (w .image) (w .state .«page_count») f []) (sym (ap (λ (m : ℕ). asFile (recAt (w .table) m)) y ∙ z)) refl)
-        go j k z (no y) = rw (ne-eqb j i y) (t .files j k)
-
 module _ {N : ℕ} {w : World} (k : Known (Unit {0}) N w) (g : Ledger) (t : Tells N w g) (i bytes : ℕ) where
-  abbrev Q : Outcome Done → Type 0
-  Q o = Tells N (ended w o .world) (onDone (o .answer) (λ why. g) (ledger.emptied (ended w o .world) i g))
+  abbrev cutTo : Ledger
+  cutTo = with-files g (put-at (g .files) i (shortened bytes (g .files i)))
 
-  changed-notes : (off : w .state .writer .active ≡ false) (i7 : i ≤ 7) (m : List ℕ) (f : FileRecord) (l : List ℕ) → Text (w .image) (w .state .«page_count») (asFile f) l
-      → with-files g (put-at (g .files) i l) ≡ emptiedBy f i g → Tells N (ended w (changedFile w i m f) .world) (ledger.emptied (ended w (changedFile w i m f) .world) i g)
-  changed-notes off i7 m f l a e =
-      subst (Tells N (ended w (changedFile w i m f) .world)) (e ∙ sym (emptied-at w i m f g (in-table (k .good) i7))) (tells-set k g t off i (omega arith) m f l a)
+  abbrev Q : Outcome Done → Type 0
+  Q o = Notes N w g (with-files g (put-at (g .files) i (shortened bytes (g .files i)))) o
+
+  abbrev f : FileRecord
+  f = recAt (w .table) i
+
+  bare-text : (x : Noted) → x ≡ blank → Text (w .image) (w .state .«page_count») (asFile truncating.emptied) x
+  unfolding truncating.emptied
+  bare-text x e = subst (λ (y : File). Text (w .image) (w .state .«page_count») y x) (sym (file-gone truncating.emptied refl)) (subst Bare (sym e) (record { size = refl; starts = refl }))
 
   -- nothing there
-  nothing-notes : w .state .writer .active ≡ false → i ≤ 7 → recAt (w .table) i .«last_page» ≡ none → Q (changedFile w i (w .map) (dirtied (recAt (w .table) i)))
-  unfolding dirtied
+  nothing-notes : w .state .writer .active ≡ false → i ≤ 7 → recAt (w .table) i .«last_page» ≡ none → Q (changedFile w i (w .map) truncating.emptied)
   nothing-notes off i7 z =
-      changed-notes off i7 (w .map) (dirtied (recAt (w .table) i)) [] (subst (λ (f : File). Text (w .image) (w .state .«page_count») f []) (sym (file-gone (dirtied (recAt (w .table) i)) z)) refl)
-      (rw (eq-eqb (recAt (w .table) i .«last_page») none z))
+      let b = subst (λ (y : File). Text (w .image) (w .state .«page_count») y (g .files i)) (file-gone f z) (t .files i (omega arith)) in
+      tells-set k g t off i i7 (w .map) truncating.emptied (shortened bytes (g .files i)) (bare-text (shortened bytes (g .files i)) (bare-shortened bytes (g .files i) b))
 
-  -- something
+  -- something: the ledger's numbers are the record's
   cut-notes : w .state .writer .active ≡ false → i ≤ 7 → (recAt (w .table) i .«last_page» ≡ none → ⊥) → (m : List ℕ) → Q (changedFile w i m (cut (recAt (w .table) i) (newFirst (recAt (w .table) i) bytes)))
-  unfolding cut advanced truncating.emptied
-  cut-notes off i7 some m =
-      cond-by (λ (f : FileRecord). Q (changedFile w i m f)) (eqb (newFirst (recAt (w .table) i) bytes) (recAt (w .table) i .«last_seq»)) _ _
-      (λ e. changed-notes off i7 m truncating.emptied [] (subst (λ (f : File). Text (w .image) (w .state .«page_count») f []) (sym (file-gone truncating.emptied refl)) refl) refl)
-      (λ e. changed-notes off i7 m (advanced (recAt (w .table) i) (newFirst (recAt (w .table) i) bytes)) (g .files i) later
-      (ap (with-files g) (put-same (g .files) i) ∙ sym (ap (λ (c : Bool). cond c (with-files g (put-at (g .files) i [])) g) (ne-eqb (recAt (w .table) i .«last_page») none some))))
+  unfolding cut truncating.advanced
+  cut-notes off i7 some m = tells-set k g t off i i7 m (cut f (newFirst f bytes)) (shortened bytes (g .files i)) (text (newFirst f bytes) refl)
     where
-      later : Text (w .image) (w .state .«page_count») (asFile (advanced (recAt (w .table) i) (newFirst (recAt (w .table) i) bytes))) (g .files i)
-      later =
-          let s = subst (λ (f : File). Text (w .image) (w .state .«page_count») f (g .files i)) (file-live (recAt (w .table) i) some) (t .files i (omega arith)) in
-          subst (λ (f : File). Text (w .image) (w .state .«page_count») f (g .files i)) (sym (file-live (advanced (recAt (w .table) i) (newFirst (recAt (w .table) i) bytes)) some))
-          (record { size = s .size; is = λ h r n low high. s .is h r n (omega arith) high })
+      s : Spells (w .image) (w .state .«page_count») (recAt (w .table) i .«last_page») (recAt (w .table) i .«first_seq») (recAt (w .table) i .«last_seq») (g .files i)
+      s = subst (λ (y : File). Text (w .image) (w .state .«page_count») y (g .files i)) (file-live f some) (t .files i (omega arith))
+
+      text : (n : ℕ) → newFirst (recAt (w .table) i) bytes ≡ n → Text (w .image) (w .state .«page_count») (asFile (cut (recAt (w .table) i) n)) (shortened bytes (g .files i))
+      text n e = by (ℕ-discrete n (f .«last_seq»))
+        where
+          e′ : advanced bytes (g .files i) ≡ n
+          e′ = ap₂ (λ (a b : ℕ). a + min bytes (b - a)) (s .starts) (s .size) ∙ e
+
+          by : Dec (n ≡ recAt (w .table) i .«last_seq») → Text (w .image) (w .state .«page_count») (asFile (cond (eqb n (recAt (w .table) i .«last_seq»)) truncating.emptied (truncating.advanced (recAt (w .table) i) n))) (shortened bytes (g .files i))
+          by (yes z) =
+              rw (eq-eqb n (f .«last_seq») z)
+              (bare-text (shortened bytes (g .files i)) (ap (λ (c : Bool). cond c blank (record { first = advanced bytes (g .files i); bytes = g .files i .bytes })) (eq-eqb (advanced bytes (g .files i)) (length (g .files i .bytes)) (e′ ∙ z ∙ sym (s .size)))))
+          by (no z) =
+              rw (ne-eqb n (f .«last_seq») z)
+              (subst (λ (x : Noted). Text (w .image) (w .state .«page_count») (asFile (truncating.advanced f n)) x)
+              (sym (ap (λ (c : Bool). cond c blank (record { first = advanced bytes (g .files i); bytes = g .files i .bytes })) (ne-eqb (advanced bytes (g .files i)) (length (g .files i .bytes)) (λ y. z (sym e′ ∙ y ∙ s .size)))))
+              (subst (λ (y : File). Text (w .image) (w .state .«page_count») y (record { first = advanced bytes (g .files i); bytes = g .files i .bytes })) (sym (file-live (truncating.advanced f n) some))
+              (record { size = s .size; starts = e′; is = λ h r m low high. s .is h r m (omega (arith, e)) high })))
 
   in-notes : w .state .writer .active ≡ false → i ≤ 7 → Q (truncateIn w i (recAt (w .table) i) bytes)
   unfolding truncateIn
   in-notes off i7 =
-      cond-by Q (isEmpty (recAt (w .table) i)) _ _ (λ e. nothing-notes off i7 (eqb-true (recAt (w .table) i .«last_page») none e))
-      (λ e. cond-by Q (inShape (w .state .«page_count») (recAt (w .table) i)) _ _
-      (λ s. by (eqb-false (recAt (w .table) i .«last_page») none e) (walk (w .state .«page_count») (readAt (w .image)) (recAt (w .table) i .«first_seq») (lastOf (recAt (w .table) i)) .ends)) (λ s. t))
+      cond-by Q (isEmpty f) _ _ (λ e. nothing-notes off i7 (eqb-true (f .«last_page») none e))
+      (λ e. cond-by Q (inShape (w .state .«page_count») f) _ _
+      (λ s. by (eqb-false (f .«last_page») none e) (walk (w .state .«page_count») (readAt (w .image)) (f .«first_seq») (lastOf f) .ends)) (λ s. t))
     where
       by : (recAt (w .table) i .«last_page» ≡ none → ⊥) → (y : Sought) → Q (truncatedBy w i (recAt (w .table) i) (newFirst (recAt (w .table) i) bytes) y)
       by some damaged = t
       by some (at q) = cut-notes off i7 some _
 
-  truncate-notes : Q (truncate w i bytes)
+  truncate-notes : Notes N w g (cond (eqb bytes 0) g (with-files g (put-at (g .files) i (shortened bytes (g .files i))))) (truncate w i bytes)
   unfolding truncate
   truncate-notes =
-      checked-by Q w (w .state .writer .active) i _ _ (λ why. t)
-      (λ h. cond-by Q (eqb bytes 0) _ _ (λ e. tells-emptied g t i (in-table (k .good) (h .known)))
-      (λ e. subst (λ (f : FileRecord). Q (truncateIn w i f bytes)) (sym (file-at (w .table) i (in-table (k .good) (h .known)))) (in-notes (h .idle) (h .known))))
+      checked-by (Notes N w g (cond (eqb bytes 0) g cutTo)) w (w .state .writer .active) i _ _ (λ why. t) (λ h. by (h .idle) (h .known) (eqb bytes 0))
+    where
+      by : w .state .writer .active ≡ false → i ≤ 7 → (c : Bool)
+          → Notes N w g (cond c g (with-files g (put-at (g .files) i (shortened bytes (g .files i))))) (cond c (kept w Fine) (truncateIn w i (fileAt (w .table) i) bytes))
+      by off i7 true = t
+      by off i7 false = subst (λ (f : FileRecord). Q (truncateIn w i f bytes)) (sym (file-at (w .table) i (in-table (k .good) i7))) (in-notes off i7)
 
 -- ---- FORMAT
 
-gone-text : (img : List ℕ) (count : ℕ) (f : File) → f ≡ gone → Text img count f []
-gone-text img count f e = subst (λ (f : File). Text img count f []) (sym e) refl
+gone-text : (img : List ℕ) (count : ℕ) (f : File) → f ≡ gone → Text img count f blank
+gone-text img count f e = subst (λ (f : File). Text img count f blank) (sym e) (record { size = refl; starts = refl })
 
 format-tells : (w : World) → Bytes (w .image) → sizes (length (w .image)) (length (w .map)) ≡ true → Tells (length (w .map)) (ended w (volume-format.formatted w (length (w .map)) (seedAfter (w .state .seed))) .world) nothing
 unfolding volume-format.formatted settled noWriter
@@ -169,6 +164,7 @@ format-tells w bs e =
       files = λ i h. gone-text (v .image) (v .state .«page_count») (asFile (recAt emptyTable i)) (ap asFile (empty-at i) ∙ empty-gone);
       base = λ b₂ M i h. let s = mounted-one (k .good .inv .mounted) M in gone-text (v .image) (b₂ .pc) (b₂ .tab i) (sym (s .tab i) ∙ sym (k .good .inv .closed refl i) ∙ ap asFile (empty-at i) ∙ empty-gone);
       draft = λ on. clash cc;
+      whose = λ on. clash cc;
     }
 
 starts-tells : (w : World) → Bytes (w .image) → volume-format.format w .answer ≡ Fine → Tells (length (w .map)) (result volume-format.format w .world) nothing
@@ -187,43 +183,40 @@ format-notes w bs g t = cond-by (Notes (length (w .map)) w g nothing) (sizes (le
     formatted-notes : sizes (length (w .image)) (length (w .map)) ≡ true → Notes (length (w .map)) w g nothing (volume-format.formatted w (length (w .map)) (seedAfter (w .state .seed)))
     formatted-notes e = formatted-fine w g (format-tells w bs e)
 
--- ---- MOUNT
+-- ---- MOUNT, with any map of that length, table and state
 
-mounted-tells : (w : World) (g : Ledger) → Tells (length (w .map)) w g → (x : LoadedAll)
-    → Known ⊥ (length (w .map)) (ended w (volume-mount.mountedAs w (length (w .map)) (seedAfter (w .state .seed)) (scan (w .image) (length (w .map))) (good x)) .world)
-    → Tells (length (w .map)) (ended w (volume-mount.mountedAs w (length (w .map)) (seedAfter (w .state .seed)) (scan (w .image) (length (w .map))) (good x)) .world) (record { files = g .committed; committed = g .committed; draft = [] })
+boot-tells : {w : World} (k : Held w) (g : Ledger) → Tells (length (w .map)) w g → (m : List ℕ) (t : Table) (s : State) → length m ≡ length (w .map) → Tells (length m) (result volume-mount.mount (powered w m t s) .world) (reverted g)
 unfolding settled noWriter
-mounted-tells w g t x m =
-    record {
-      files = λ i h.
-          subst (λ (c : ℕ). Text (w .image) c (asFile (getD (x .files) i emptyRecord)) (g .committed i)) (sym (m .good .sees .pc))
-          (subst (λ (f : File). Text (w .image) (m .base .pc) f (g .committed i)) (sym (m .good .inv .closed refl i)) (t .base (m .base) (m .good .inv .mounted) i h));
-      base = t .base;
-      draft = λ on. clash cc;
-    }
-
-mount-notes : (w : World) (k : Held w) (g : Ledger) → Tells (length (w .map)) w g → Notes (length (w .map)) w g (record { files = g .committed; committed = g .committed; draft = [] }) (volume-mount.mount w)
-unfolding volume-mount.mount volume-mount.mountWith volume-mount.mountBest
-mount-notes w k g t =
-    cond-by (Notes (length (w .map)) w g L) (sizes (length (w .image)) (length (w .map))) _ _
-    (λ e. by (sizes-say (length (w .image)) (length (w .map)) e) (volume-mount.mountFrom (w .image) (length (w .map)) (scan (w .image) (length (w .map)))) refl) (λ e. t)
+boot-tells {w} k g T m t s same = subst (λ (o : Outcome Done). Tells (length m) (ended (powered w m t s) o .world) (reverted g)) (sym (boots-as k m t s same)) tells
   where
-    L : Ledger
-    L = record { files = g .committed; committed = g .committed; draft = [] }
+    M : Known ⊥ (length m) (ended (powered w m t s) (volume-mount.mountedAs (powered w m t s) (length m) (seedAfter (s .seed)) (scan (w .image) (length m)) (good (mount-finds (w .image) (k .good .inv .mounted) (k .good .sees .bytes) .loaded))) .world)
+    M = boot-known k m t s same ⊥
 
-    by : (4 ≤ length (w .map)) × (length (w .map) ≤ 1024) × (length (w .image) ≡ 256 * length (w .map)) → (x : Maybe LoadedAll) → volume-mount.mountFrom (w .image) (length (w .map)) (scan (w .image) (length (w .map))) ≡ x
-        → Notes (length (w .map)) w g (record { files = g .committed; committed = g .committed; draft = [] }) (volume-mount.mountedAs w (length (w .map)) (seedAfter (w .state .seed)) (scan (w .image) (length (w .map))) x)
-    by z bad h = let f = mount-finds (w .image) (k .good .inv .mounted) (k .good .sees .bytes) in clash (cc (f .is))
-    by z (good x) h =
-        let m = mount-known ⊥ w (k .good .sees .bytes) (length (w .map)) (seedAfter (w .state .seed)) x (λ d. absurd d) (z .2) (z .0) (z .1) h in
-        mounted-tells w g t x m
+    base : (b : Base) → Mounted (length m) (view (w .image)) b → (i : ℕ) → i < 8 → Text (w .image) (b .pc) (b .tab i) (g .committed i)
+    base b N i h = T .base b (subst (λ (n : ℕ). Mounted n (view (w .image)) b) same N) i h
+
+    tells : Tells (length m) (ended (powered w m t s) (volume-mount.mountedAs (powered w m t s) (length m) (seedAfter (s .seed)) (scan (w .image) (length m)) (good (mount-finds (w .image) (k .good .inv .mounted) (k .good .sees .bytes) .loaded))) .world) (reverted g)
+    tells =
+        record {
+          files = λ i h.
+              subst (λ (c : ℕ). Text (w .image) c (asFile (getD (mount-finds (w .image) (k .good .inv .mounted) (k .good .sees .bytes) .loaded .files) i emptyRecord)) (g .committed i)) (sym (M .good .sees .pc))
+              (subst (λ (f : File). Text (w .image) (M .base .pc) f (g .committed i)) (sym (M .good .inv .closed refl i)) (base (M .base) (M .good .inv .mounted) i h));
+          base = base;
+          draft = λ on. clash cc;
+          whose = λ on. clash cc;
+        }
+
+mount-notes : {w : World} (k : Held w) (g : Ledger) → Tells (length (w .map)) w g → Notes (length (w .map)) w g (reverted g) (volume-mount.mount w)
+mount-notes {w} k g t =
+    subst (λ (d : Done). Tells (length (w .map)) (result volume-mount.mount w .world) (onDone d (λ why. g) (reverted g))) (sym (boot-fine k (w .map) (w .table) (w .state) refl))
+    (boot-tells k g t (w .map) (w .table) (w .state) refl)
 
 -- ---- EVERY CALL
 
 step-tells : (c : Call) (w : World) (k : Held w) (g : Ledger) → Tells (length (w .map)) w g → Tells (length (w .map)) (step c w) (note c w g)
 unfolding step note
 step-tells calls.format w k g t = format-notes w (k .good .sees .bytes) g t
-step-tells calls.mount w k g t = mount-notes w k g t
+step-tells calls.mount w k g t = mount-notes k g t
 step-tells (calls.locate i n) w k g t = t
 step-tells (calls.read r n) w k g t = t
 step-tells (calls.skip r n) w k g t = t
@@ -275,8 +268,9 @@ pub record Holds (w : World) (g : Ledger) : Type 0 where
   pub tells : Tells (length (w .map)) w g
 
 pub written-holds : {w : World} {g : Ledger} → Written w g → Holds w g
+unfolding step
 written-holds {w} (starts f) =
-    let h : Held w = format-reached (calls.starts f) in
+    let h : Held w = format-reached (calls.formats f) in
     let s : length (w .image) ≡ length (f .from .image) = ap (λ (v : World). length (v .image)) (f .left) ∙ ran-length (f .from .image) (volume-format.format (f .from) .stores) in
     let n : length (f .from .map) ≡ length (w .map) = omega (arith, s, format-size (f .from) (f .done), h .good .sees .size) in
     record { held = h; tells = subst (λ (k : ℕ). Tells k w nothing) n (subst (λ (v : World). Tells (length (f .from .map)) v nothing) (sym (f .left)) (starts-tells (f .from) (f .bytes) (f .done))) }
@@ -285,22 +279,37 @@ written-holds (goes {w = w} {g = g} c r) =
     let h = step-held c w (p .held) in
     let n : length (w .map) ≡ length (step c w .map) = omega (arith, step-size c w, p .held .good .sees .size, h .good .sees .size) in
     record { held = h; tells = subst (λ (k : ℕ). Tells k (step c w) (note c w g)) n (step-tells c w (p .held) g (p .tells)) }
+written-holds (boots {w = w} {g = g} m t s same r) =
+    let p = written-holds r in
+    let h = boot-held (p .held) m t s same in
+    let v = result volume-mount.mount (powered w m t s) .world in
+    let z : length (v .image) ≡ length (w .image) = ran-length (w .image) (volume-mount.mount (powered w m t s) .stores) in
+    let n : length m ≡ length (v .map) = omega (arith, p .held .good .sees .size, h .good .sees .size) in
+    record { held = h; tells = subst (λ (k : ℕ). Tells k v (reverted g)) n (boot-tells (p .held) g (p .tells) m t s same) }
 
--- THE BYTES LAST WRITTEN
-pub written-bytes : {w : World} {g : Ledger} → Written w g → (i n : ℕ) → i < 8 → fileAt (w .table) i .«first_seq» ≤ n → n < fileAt (w .table) i .«last_seq» → byteAt (w .image) (w .state .«page_count») (fileAt (w .table) i) n ≡ byte (getD (g .files i) n 0)
+-- HOW MUCH THERE IS, and THE BYTES LAST WRITTEN
+pub written-file : {w : World} {g : Ledger} → Written w g → (i : ℕ) → i < 8 → AsNoted w i (g .files i)
 unfolding byteAt
-written-bytes {w} {g} r i n i8 low high =
+written-file {w} {g} r i i8 =
     let p = written-holds r in
     let G = p .held .good in
-    let e : fileAt (w .table) i ≡ recAt (w .table) i = file-at (w .table) i (omega (arith, G .sees .eight)) in
     let ok = G .sees .recs i in
     let s = tale-of (w .image) (w .state .«page_count») (recAt (w .table) i) (g .files i) ok (p .tells .files i i8) in
-    let low′ = subst (λ (f : FileRecord). f .«first_seq» ≤ n) e low in
-    let high′ = subst (λ (f : FileRecord). n < f .«last_seq») e high in
-    ap (λ (f : FileRecord). byteFrom (w .image) (w .state .«page_count») (lastOf f) n) e
-    ∙ s .is (λ z. omega (arith, ok .empty z .last)) n low′ high′
+    subst (λ (f : FileRecord). AsFile w f (g .files i)) (sym (file-at (w .table) i (omega (arith, G .sees .eight))))
+    (record {
+      first = s .starts;
+      size = s .size;
+      bytes = λ n low high. s .is (λ z. omega (arith, ok .empty z .last)) n low high;
+    })
 
 -- every world from a format has its ledger
 pub ledger-of : {w : World} → calls.FromFormat w → (g : Ledger) × Written w g
-ledger-of (calls.starts f) = (nothing, starts f)
-ledger-of (calls.goes {w = w} c r) = let p = ledger-of r in (note c w (p .0), goes c (p .1))
+ledger-of (calls.formats f) = (nothing, starts f)
+ledger-of (calls.reaches {w = w} c r) = let p = ledger-of r in (note c w (p .0), goes c (p .1))
+ledger-of (calls.boots m t s same r) = let p = ledger-of r in (reverted (p .0), boots m t s same (p .1))
+
+-- and is such a world
+pub written-format : {w : World} {g : Ledger} → Written w g → calls.FromFormat w
+written-format (starts f) = calls.formats f
+written-format (goes c r) = calls.reaches c (written-format r)
+written-format (boots m t s same r) = calls.boots m t s same (written-format r)

@@ -1,5 +1,5 @@
 -- What the demands speak of, in document 01's words. Assumes nothing: these are definitions.
-use Prim.Native.Nat.{ℕ, _+_, _-_, _≤_, _<_}
+use Prim.Native.Nat.{ℕ, _+_, _-_, _*_, _≤_, _<_}
 use mathlib.Core.Path.{_≡_}
 use mathlib.Core.Bool.{true, cond}
 use mathlib.Core.List.{List, [], _∷_}
@@ -24,7 +24,8 @@ use Rattle.transact.specs.Commit.{commit}
 use Rattle.page.specs.Page.{readable}
 use Rattle.page.specs.declared.DataHeader.{DataHeader}
 use Rattle.chain.specs.declared.PagePointer.{PagePointer}
-use Rattle.chain.specs.Seek.{most}
+use Rattle.seq.specs.Seq.{multiples}
+use Rattle.chain.specs.Seek.{Agree}
 use Rattle.reader.specs.declared.Located.the-variants.{At}
 use Rattle.reader.specs.declared.Reader.{Reader}
 use Rattle.reader.specs.Locate.{pathOf, locate}
@@ -33,6 +34,13 @@ use Rattle.reader.specs.Read.{read, moved}
 abbrev pub In : ℕ → List ℕ → Type 0
 In p [] = ⊥
 In p (q ∷ l) = (p ≡ q) ⊎ In p l
+
+-- ---- no list is too short for what is asked of it: a byte of the map for each page below page_count, 256 bytes of the image for each, eight files
+
+pub record Whole (w : World) : Type 0 where
+  pub image : length (w .image) ≡ 256 * length (w .map)
+  pub count : w .state .«page_count» ≤ length (w .map)
+  pub table : length (w .table .files) ≡ 8
 
 -- ---- the end of "Files and transactions": what a page below page_count is
 
@@ -116,11 +124,19 @@ pub record Locates (w : World) (i n : ℕ) : Type 0 where
   pub held : holds (page .header) n ≡ true
   pub only : (p : ℕ) (h : DataHeader) → OnChain w (fileAt (w .table) i) p → readAt (w .image) p ≡ readable h → holds h n ≡ true → p ≡ page .«page_id»
   -- at most 9 plus the multiples of 32,768 from n up to but excluding the last page's first number
-  pub few : length (pathOf (w .image) (w .state .«page_count») (fileAt (w .table) i) n .path) ≤ most n (fileAt (w .table) i .header .seq)
+  pub few : length (pathOf (w .image) (w .state .«page_count») (fileAt (w .table) i) n .path) ≤ 9 + multiples 32768 n (fileAt (w .table) i .header .seq)
 
--- a read of live numbers: never refused, and it gives each number's byte
-pub record Reads (w : World) (r : Reader) (out : List ℕ) : Type 0 where
+-- another image under the same map, table and state, which agrees on the headers of the rule's path
+abbrev pub with-image : World → List ℕ → World
+with-image w img = record { image = img; map = w .map; table = w .table; state = w .state }
+
+pub record AgreesOnPath (w : World) (i n : ℕ) (img : List ℕ) : Type 0 where
+  pub size : length img ≡ length (w .image)
+  pub headers : Agree (readAt (w .image)) (readAt img) (pathOf (w .image) (w .state .«page_count») (fileAt (w .table) i) n .path)
+
+-- a read of live numbers in world v: never refused, and it gives the byte that each number has in world w
+pub record Reads (w v : World) (r : Reader) (out : List ℕ) : Type 0 where
   pub bytes : List ℕ
-  pub gives : read w r out ≡ record { answer = Fine; reader = moved r (length out); out = bytes }
+  pub gives : read v r out ≡ record { answer = Fine; reader = moved r (length out); out = bytes }
   pub size : length bytes ≡ length out
   pub each : (k : ℕ) → k < length out → byteAt (w .image) (w .state .«page_count») (fileAt (w .table) (r .file)) (r .seq + k) ≡ byte (getD bytes k 0)

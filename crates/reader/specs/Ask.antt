@@ -1,14 +1,16 @@
--- Small questions of a reader, of the files and of the pages. Assumes nothing: these are definitions.
+-- Small questions of a reader, of the files and of the pages; DECISIONS 46. A reader's offset is `offsetIn` of `state`. Assumes nothing: these are definitions.
 use Prim.Native.Nat.{ℕ, _-_}
-use mathlib.Core.Bool.{Bool, true, cond, not}
+use mathlib.Core.Bool.{Bool, cond, not}
 use mathlib.Core.List.{List, [], _∷_}
 use lib.Bits.{bitAnd}
 use lib.Dec.{eqb, ltb}
 use lib.ListN.{take}
-use Rattle.seq.specs.Seq.{Reply, subSays}
 use Rattle.map.specs.Map.{freeCount}
 use Rattle.state.specs.declared.types.Table.{Table}
 use Rattle.state.specs.declared.types.State.{State}
+use Rattle.state.specs.declared.types.Refusal.the-variants.{BadFile}
+use Rattle.state.specs.declared.types.Whether.{Whether}
+use Rattle.state.specs.declared.types.Whether.the-variants.{Yes, No, Refused}
 use Rattle.state.specs.Values.{fileAt, isEmpty}
 use Rattle.reader.specs.declared.Reader.{Reader}
 use Rattle.reader.specs.Skip.{readerOf}
@@ -17,14 +19,11 @@ use Rattle.reader.specs.Skip.{readerOf}
 unfoldable pub readerAt : Table → ℕ → Reader
 readerAt t file = cond (ltb 7 file) (record { file = file; seq = 0 }) (readerOf file (fileAt t file))
 
--- Seq::sub: Range where the reader stands before first_seq
-abbrev pub offsetSays : Table → Reader → Reply
-offsetSays t r = subSays (r .seq) (readerAt t (r .file) .seq)
+-- whether a file is empty: one above 7 is BadFile
+unfoldable pub emptySays : Table → ℕ → Whether
+emptySays t file = cond (ltb 7 file) (Refused BadFile) (cond (isEmpty (fileAt t file)) Yes No)
 
--- a file above 7 is empty, and has no flags
-unfoldable pub emptyAt : Table → ℕ → Bool
-emptyAt t file = cond (ltb 7 file) true (isEmpty (fileAt t file))
-
+-- a file above 7 has no flags
 unfoldable pub flagsAt : Table → ℕ → ℕ
 flagsAt t file = cond (ltb 7 file) 0 (fileAt t file .flags)
 

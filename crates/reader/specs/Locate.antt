@@ -2,17 +2,23 @@
 -- Assumes nothing: these are definitions.
 use Prim.Native.Nat.{ℕ}
 use mathlib.Core.Bool.{cond}
-use mathlib.Core.List.{List}
+use mathlib.Core.List.{List, [], _∷_}
 use lib.Dec.{leb, ltb}
 use lib.ListN.{length}
 use Rattle.chain.specs.Files.{lastOf}
 use Rattle.chain.specs.Steps.{readAt, Sought, damaged, at, Trace, seek}
 use Rattle.state.specs.declared.types.FileRecord.{FileRecord}
 use Rattle.state.specs.declared.types.Refusal.the-variants.{Gone, Eof, Damaged}
+use Rattle.state.specs.Refusals.{number}
 use Rattle.state.specs.Values.{fileAt, inShape}
 use Rattle.state.specs.World.{World, checked}
 use Rattle.reader.specs.declared.Located.{Located}
 use Rattle.reader.specs.declared.Located.the-variants.{At, Refused}
+
+-- the answer in document 01's numbers: 0, the page and the headers read, or the refusal's number
+abbrev pub locatedNumbers : Located → List ℕ
+locatedNumbers (At page headers) = 0 ∷ page ∷ headers ∷ []
+locatedNumbers (Refused why) = number why ∷ []
 
 -- the rule's path of a number
 abbrev pub pathOf : List ℕ → ℕ → FileRecord → ℕ → Trace

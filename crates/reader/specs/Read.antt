@@ -2,7 +2,7 @@
 -- Assumes nothing: these are definitions.
 use Prim.Native.Nat.{ℕ, zero, suc, _+_, _-_, min}
 use mathlib.Core.Bool.{cond}
-use mathlib.Core.List.{List, [], _++_}
+use mathlib.Core.List.{List, [], _∷_, _++_}
 use lib.Dec.{eqb, leb, ltb}
 use lib.ListN.{length, replicate}
 use Rattle.runs.specs.Runs.{part}
@@ -13,6 +13,7 @@ use Rattle.state.specs.declared.types.FileRecord.{FileRecord}
 use Rattle.state.specs.declared.types.Refusal.the-variants.{Gone, Eof, Short, Damaged}
 use Rattle.state.specs.declared.types.Done.{Done}
 use Rattle.state.specs.declared.types.Done.the-variants.{Done as Fine, Refused}
+use Rattle.state.specs.Refusals.{numbers}
 use Rattle.state.specs.Values.{fileAt, inShape}
 use Rattle.state.specs.World.{World, checked}
 use Rattle.reader.specs.declared.Reader.{Reader}
@@ -99,3 +100,15 @@ unfoldable pub read : World → Reader → List ℕ → AfterRead
 read w r out =
     checked w (w .state .transaction) (r .file) (λ why. readKept r out (Refused why))
     (readIn (w .image) (w .state .«page_count») (fileAt (w .table) (r .file)) r out)
+
+-- ---- the same in document 01's numbers: the answer's, then the reader's two; and the output
+
+abbrev pub readNumbers : Done → Reader → List ℕ
+readNumbers d r = numbers d ++ (r .file ∷ r .seq ∷ [])
+
+pub record ToldRead : Type 0 where
+  pub answer : List ℕ
+  pub out : List ℕ
+
+abbrev pub readTold : AfterRead → ToldRead
+readTold a = record { answer = readNumbers (a .answer) (a .reader); out = a .out }

@@ -1,16 +1,22 @@
 -- Skip and seek to an offset, by document 01, "Reading and search"; DECISIONS 21. Assumes nothing: these are definitions.
 use Prim.Native.Nat.{ℕ, _+_}
 use mathlib.Core.Bool.{cond}
-use mathlib.Core.List.{List}
+use mathlib.Core.List.{List, [], _∷_}
 use lib.Dec.{eqb, leb, ltb}
 use Rattle.state.specs.declared.types.FileRecord.{FileRecord}
 use Rattle.state.specs.declared.types.Refusal.the-variants.{Gone, Eof, Short, Damaged}
+use Rattle.state.specs.Refusals.{number}
 use Rattle.state.specs.Values.{fileAt, inShape}
 use Rattle.state.specs.World.{World, checked}
 use Rattle.reader.specs.declared.Reader.{Reader}
 use Rattle.reader.specs.declared.Skipped.{Skipped}
 use Rattle.reader.specs.declared.Skipped.the-variants.{To, Refused}
 use Rattle.reader.specs.Read.{Opened, shut, shown, openAt}
+
+-- the answer in document 01's numbers: 0 and where the reader then stands, or the refusal's number
+abbrev pub skippedNumbers : Skipped → List ℕ
+skippedNumbers (To seq) = 0 ∷ seq ∷ []
+skippedNumbers (Refused why) = number why ∷ []
 
 -- landing below last_seq opens the page there
 abbrev pub landedBy : ℕ → Opened → Skipped

@@ -1,11 +1,14 @@
-// Small questions of a reader, of the files and of the pages. All are total: a file above 7 is empty.
+// Small questions of a reader, of the files and of the pages (DECISIONS 46): each looks at no more than it is handed.
 use crate::Reader;
-use seq::numbers::Answer;
+use state::types::Asked;
+use state::types::Refusal;
 use state::types::State;
 use state::types::Table;
+use state::types::Whether;
 ghost use mathlib.Core.Path.{_≡_};
-ghost use Rattle.seq.specs.Seq.{reply};
-ghost use Rattle.reader.specs.Ask.{readerAt, offsetSays, emptyAt, flagsAt, hasFlag, withFlag, freePages, usedPages};
+ghost use Rattle.state.specs.Refusals.{askedNumbers, whetherNumbers};
+ghost use Rattle.state.specs.Values.{offsetIn};
+ghost use Rattle.reader.specs.Ask.{readerAt, emptySays, flagsAt, hasFlag, withFlag, freePages, usedPages};
 
 // A new reader of a file.
 pub fn reader_of(table: Table, file: u8) -> Reader
@@ -21,12 +24,11 @@ pub fn reader_of(table: Table, file: u8) -> Reader
     }
 }
 
-// How far behind the file's first number a reader stands, and Range before it.
-pub fn offset(table: Table, reader: Reader) -> Answer
-    ensures { λ r. ⌜ reply r ≡ offsetSays table reader ⌝ }
+// How far behind the file's first number a reader stands.
+pub fn offset(table: Table, reader: Reader) -> Asked
+    ensures { λ r. ⌜ askedNumbers r ≡ askedNumbers (offsetIn table (reader .file) (reader .seq)) ⌝ }
 {
-    let first = reader_of(table, reader.file);
-    seq::numbers::seq_sub(reader.seq, first.seq)
+    state::values::offset_in(table, reader.file, reader.seq as u64)
 }
 
 pub fn curr_seq(reader: Reader) -> u32
@@ -35,14 +37,17 @@ pub fn curr_seq(reader: Reader) -> u32
     reader.seq
 }
 
-pub fn is_empty(table: Table, file: u8) -> bool
-    ensures { λ r. ⌜ r ≡ emptyAt table file ⌝ }
+pub fn is_empty(table: Table, file: u8) -> Whether
+    ensures { λ r. ⌜ whetherNumbers r ≡ whetherNumbers (emptySays table file) ⌝ }
 {
     if 7 < file {
-        return true;
+        return Whether::Refused(Refusal::BadFile);
     }
     let f = table.files[file as usize];
-    f.last_page == seq::ids::NONE
+    if f.last_page == seq::ids::NONE {
+        return Whether::Yes;
+    }
+    Whether::No
 }
 
 pub fn file_flags(table: Table, file: u8) -> u8

@@ -5,13 +5,13 @@ use state::types::State;
 use state::types::Table;
 ghost use mathlib.Core.Path.{_≡_};
 ghost use Rattle.state.specs.World.{before};
-ghost use Rattle.reader.specs.Locate.{locate};
-ghost use Rattle.reader.specs.Read.{afterRead, read};
-ghost use Rattle.reader.specs.Skip.{skip, seekOffset};
+ghost use Rattle.reader.specs.Locate.{locatedNumbers, locate};
+ghost use Rattle.reader.specs.Read.{afterRead, readTold, read};
+ghost use Rattle.reader.specs.Skip.{skippedNumbers, skip, seekOffset};
 
 pub mod ask;
-pub mod pages;
-pub mod reading;
+mod pages;
+mod reading;
 
 pub struct Reader {
     pub file: u8,
@@ -38,7 +38,7 @@ pub struct ReadOut {
 
 // The page of a number, unopened: Rust's get_file_page.
 pub fn locate(image: &[u8], map: &[u8], table: Table, state: State, file: u8, seq: u32) -> Located
-    ensures { λ r. ⌜ r ≡ locate (before (now (image .entry)) (now (map .entry)) table state) file seq ⌝ }
+    ensures { λ r. ⌜ locatedNumbers r ≡ locatedNumbers (locate (before (now (image .entry)) (now (map .entry)) table state) file seq) ⌝ }
 {
     let answer = state::checks::check(image.len(), map.len(), state, state.transaction, file);
     match answer {
@@ -58,7 +58,7 @@ pub fn read(
     reader: Reader,
     out: &mut [u8],
 ) -> ReadOut
-    ensures { λ r. ⌜ afterRead r (now (out .exit)) ≡ read (before (now (image .entry)) (now (map .entry)) table state) reader (now (out .entry)) ⌝ }
+    ensures { λ r. ⌜ readTold (afterRead r (now (out .exit))) ≡ readTold (read (before (now (image .entry)) (now (map .entry)) table state) reader (now (out .entry))) ⌝ }
 {
     let file = reader.file;
     let answer = state::checks::check(image.len(), map.len(), state, state.transaction, file);
@@ -79,7 +79,7 @@ pub fn skip(
     reader: Reader,
     len: usize,
 ) -> Skipped
-    ensures { λ r. ⌜ r ≡ skip (before (now (image .entry)) (now (map .entry)) table state) reader len ⌝ }
+    ensures { λ r. ⌜ skippedNumbers r ≡ skippedNumbers (skip (before (now (image .entry)) (now (map .entry)) table state) reader len) ⌝ }
 {
     let file = reader.file;
     let answer = state::checks::check(image.len(), map.len(), state, state.transaction, file);
@@ -93,7 +93,7 @@ pub fn skip(
 
 // To an offset of the file: FileReader::seek.
 pub fn seek(image: &[u8], map: &[u8], table: Table, state: State, file: u8, offs: usize) -> Skipped
-    ensures { λ r. ⌜ r ≡ seekOffset (before (now (image .entry)) (now (map .entry)) table state) file offs ⌝ }
+    ensures { λ r. ⌜ skippedNumbers r ≡ skippedNumbers (seekOffset (before (now (image .entry)) (now (map .entry)) table state) file offs) ⌝ }
 {
     skip(image, map, table, state, ask::reader_of(table, file), offs)
 }

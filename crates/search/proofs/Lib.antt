@@ -5,3 +5,4 @@ pub mod Offers
 pub mod Sound
 pub mod Turns
 pub mod Depth
+pub mod Numbers

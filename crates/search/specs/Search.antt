@@ -1,13 +1,14 @@
 -- Search: start, left and right, by document 01, "Reading and search"; DECISIONS 6 and 23. Assumes nothing: these are definitions.
 use Prim.Native.Nat.{ℕ, _+_}
 use mathlib.Core.Bool.{Bool, true, false, cond}
-use mathlib.Core.List.{[]}
+use mathlib.Core.List.{List, [], _∷_}
 use Rattle.chain.specs.Files.{lastOf}
 use Rattle.chain.specs.Links.{linksAfter}
 use Rattle.chain.specs.Steps.{readAt}
 use Rattle.state.specs.declared.types.FileRecord.{FileRecord}
 use Rattle.state.specs.declared.types.Search.{Search}
 use Rattle.state.specs.declared.types.Refusal.the-variants.{Damaged, NoSearch}
+use Rattle.state.specs.Refusals.{number}
 use Rattle.state.specs.Values.{fileAt, isEmpty, inShape, noSearch, withSearch}
 use Rattle.state.specs.World.{World, Outcome, kept, checked}
 use Rattle.search.specs.declared.Answer.{Answer}
@@ -15,6 +16,12 @@ use Rattle.search.specs.declared.Answer.the-variants.{Offer as Offers, E
 use Rattle.search.specs.declared.hunt.Offer.{Offer}
 use Rattle.search.specs.declared.search.Stand.{Stand}
 use Rattle.search.specs.Hunt.{Sought, offered, ended, broken, hunt}
+
+-- an answer in document 01's numbers: 0, 1 and the position on offer, or 0, 0 and the result, or the refusal's number
+abbrev pub answerNumbers : Answer → List ℕ
+answerNumbers (Offers seq) = 0 ∷ 1 ∷ seq ∷ []
+answerNumbers (End seq) = 0 ∷ 0 ∷ seq ∷ []
+answerNumbers (Refused why) = number why ∷ []
 
 abbrev pub offering : Stand → ℕ → Offer → Search
 offering s left o =

@@ -17,7 +17,7 @@ use Rattle.state.specs.declared.types.State.{State}
 use Rattle.state.specs.declared.types.Table.{Table}
 use Rattle.state.specs.declared.types.Refusal.the-variants.{Damaged}
 use Rattle.state.specs.Values.{noSearch, withSearch, isEmpty, inShape}
-use Rattle.state.specs.World.{After, before}
+use Rattle.state.specs.World.{World, Outcome, After, result, before, inNumbers}
 use Rattle.search.specs.declared.Answer.{Answer}
 use Rattle.search.specs.declared.Answer.the-variants.{Offer as Offers, End, Refused}
 use Rattle.search.specs.declared.SearchOut.{SearchOut}
@@ -30,12 +30,19 @@ use Rattle.search.specs.declared.hunt.Kind.the-variants.{Offered, Ended,
 use Rattle.search.specs.declared.hunt.Hunted.{Hunted}
 use Rattle.search.specs.declared.search.Stand.{Stand}
 use Rattle.search.specs.Hunt.{Hit, hit, tooLeft, wrong, greater, seenBy, seekToPage, hitBy, Sought, offered, ended, broken, tries, reallySeek, hunt}
-use Rattle.search.specs.Search.{offering, startOf}
+use Rattle.search.specs.Search.{answerNumbers, offering, startOf}
 
 -- ---- a call: of all that there is only the search changes
 
 abbrev pub afterSearch : SearchOut → List ℕ → List ℕ → Table → State → After Answer
 afterSearch r i m t s = record { answer = r .answer; world = before i m t (withSearch s (r .search)) }
+
+-- what a call hands back and leaves, in numbers, and what its definition gives
+abbrev pub yields : SearchOut → List ℕ → List ℕ → Table → State → After (List ℕ)
+yields r i m t s = inNumbers answerNumbers (afterSearch r i m t s)
+
+abbrev pub promised : (World → Outcome Answer) → World → After (List ℕ)
+promised call w = inNumbers answerNumbers (result call w)
 
 -- ---- where a hunt stands
 

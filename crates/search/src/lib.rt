@@ -2,7 +2,7 @@
 use state::types::Refusal;
 use state::types::Search;
 
-pub mod hunt;
+mod hunt;
 pub mod search;
 
 // A position on offer, the result at a false answer, or a refusal.

@@ -13,10 +13,10 @@ ghost use mathlib.Core.Path.{_≡_};
 ghost use Prim.Native.Nat.{_≤_};
 ghost use Rattle.seq.specs.Seq.{limit};
 ghost use Rattle.chain.specs.Steps.{readAt};
-ghost use Rattle.state.specs.World.{before, result};
+ghost use Rattle.state.specs.World.{before};
 ghost use Rattle.search.specs.Hunt.{hunt};
 ghost use Rattle.search.specs.Search.{offering, startOf, leftOf, rightOf, start, left, right, turn};
-ghost use Rattle.search.specs.Told.{afterSearch, replied, begun};
+ghost use Rattle.search.specs.Told.{yields, promised, replied, begun};
 
 // Where a search stands before it seeks.
 pub struct Stand {
@@ -154,7 +154,7 @@ fn begin(image: &[u8], count: usize, old: Search, file: u8, f: FileRecord) -> Se
 
 // Starts a search in a file.
 pub fn search(image: &[u8], map: &[u8], table: Table, state: State, file: u8) -> SearchOut
-    ensures { λ r. ⌜ afterSearch r (now (image .entry)) (now (map .entry)) table state ≡ result (λ w. start w file) (before (now (image .entry)) (now (map .entry)) table state) ⌝ }
+    ensures { λ r. ⌜ yields r (now (image .entry)) (now (map .entry)) table state ≡ promised (λ w. start w file) (before (now (image .entry)) (now (map .entry)) table state) ⌝ }
 {
     let old = state.search;
     let passed = state::checks::check(image.len(), map.len(), state, state.transaction, file);
@@ -172,7 +172,7 @@ pub fn search(image: &[u8], map: &[u8], table: Table, state: State, file: u8) ->
 
 // The answer to the position on offer, right or left. No table is looked at.
 pub fn turn(image: &[u8], map: &[u8], state: State, to_right: bool) -> SearchOut
-    ensures { λ r. ⌜ ((t : Table) → afterSearch r (now (image .entry)) (now (map .entry)) t state ≡ result (turn «to_right») (before (now (image .entry)) (now (map .entry)) t state)) ⌝ }
+    ensures { λ r. ⌜ ((t : Table) → yields r (now (image .entry)) (now (map .entry)) t state ≡ promised (turn «to_right») (before (now (image .entry)) (now (map .entry)) t state)) ⌝ }
 {
     let q = state.search;
     let passed = state::checks::check(image.len(), map.len(), state, state.transaction, 0);
@@ -194,14 +194,14 @@ pub fn turn(image: &[u8], map: &[u8], state: State, to_right: bool) -> SearchOut
 
 // The record that is looked for lies left of the position on offer.
 pub fn left(image: &[u8], map: &[u8], state: State) -> SearchOut
-    ensures { λ r. ⌜ ((t : Table) → afterSearch r (now (image .entry)) (now (map .entry)) t state ≡ result left (before (now (image .entry)) (now (map .entry)) t state)) ⌝ }
+    ensures { λ r. ⌜ ((t : Table) → yields r (now (image .entry)) (now (map .entry)) t state ≡ promised left (before (now (image .entry)) (now (map .entry)) t state)) ⌝ }
 {
     turn(image, map, state, false)
 }
 
 // It lies there or right of it.
 pub fn right(image: &[u8], map: &[u8], state: State) -> SearchOut
-    ensures { λ r. ⌜ ((t : Table) → afterSearch r (now (image .entry)) (now (map .entry)) t state ≡ result right (before (now (image .entry)) (now (map .entry)) t state)) ⌝ }
+    ensures { λ r. ⌜ ((t : Table) → yields r (now (image .entry)) (now (map .entry)) t state ≡ promised right (before (now (image .entry)) (now (map .entry)) t state)) ⌝ }
 {
     turn(image, map, state, true)
 }

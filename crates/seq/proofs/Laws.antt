@@ -1,5 +1,5 @@
 -- The laws of `zeros`, of the spans and of `index` that callers cite instead of the definitions. Assumes nothing.
-use mathlib.Core.Path.{_≡_, refl}
+use mathlib.Core.Path.{_≡_, refl, sym, ap, _∙_}
 use mathlib.Core.Logic.{_↔_, Iff·trans, inl, inr}
 use mathlib.Core.Bool.{Bool, true, false, cond}
 use Prim.Native.Nat.{ℕ, zero, suc, _+_, _-_, _*_, _^_, _≤_, _<_}
@@ -9,9 +9,26 @@ use borrow.Author.Tests.{lt-ltb}
 use lib.Dec.{T, leb, ltb, eqb, leb→le, le→leb, eqb→eq}
 use lib.Bits.{bitXor}
 use lib.Pow.{pow-pos, pow-add}
-use Rattle.seq.specs.Seq.{TopBit, Holds, below, greatest, zeros, index, level, span, shift}
+use Rattle.seq.specs.declared.numbers.Answer.{Answer}
+use Rattle.seq.specs.declared.numbers.Answer.the-variants.{Number, Range, SeqEnd}
+use Rattle.seq.specs.Seq.{Reply, number, refused, reply, TopBit, Holds, below, greatest, zeros, index, level, span, shift}
 use Rattle.seq.proofs.Top.{top-holds}
 use Rattle.seq.proofs.Multiples.{holds-iff, holds-factor, holds-double, none-short, greatest-le, greatest-passes, greatest-reaches}
+
+-- ---- answers
+
+-- an answer's numbers lose nothing: it can be read back from them
+abbrev answerIn : Reply → Answer
+answerIn (number n) = Number n
+answerIn (refused k) = cond (eqb k 12) Range SeqEnd
+
+answer-back : (a : Answer) → answerIn (reply a) ≡ a
+answer-back (Number n) = refl
+answer-back Range = refl
+answer-back SeqEnd = refl
+
+pub reply-same : (a b : Answer) → reply a ≡ reply b → a ≡ b
+reply-same a b e = sym (answer-back a) ∙ ap answerIn e ∙ answer-back b
 
 -- ---- trailing zeros
 

@@ -1,9 +1,14 @@
 -- Refusals, by document 01, "Refusal numbers". Assumes nothing: these are definitions.
 use Prim.Native.Nat.{ℕ}
+use mathlib.Core.List.{List, [], _∷_}
 use Rattle.state.specs.declared.types.Refusal.{Refusal}
 use Rattle.state.specs.declared.types.Refusal.the-variants.{BadSize, NotMounted, Busy, BadFile, Damaged, Eof, Short, NoRoom, SeqEnd, NoSearch, Gone, Range}
 use Rattle.state.specs.declared.types.Done.{Done}
 use Rattle.state.specs.declared.types.Done.the-variants.{Done as Fine, Refused}
+use Rattle.state.specs.declared.types.Asked.{Asked}
+use Rattle.state.specs.declared.types.Asked.the-variants.{Number, Refused as Unasked}
+use Rattle.state.specs.declared.types.Whether.{Whether}
+use Rattle.state.specs.declared.types.Whether.the-variants.{Yes, No, Refused as Untold}
 
 -- document 01's number of each
 abbrev pub number : Refusal → ℕ
@@ -20,7 +25,12 @@ number NoSearch = 10
 number Gone = 11
 number Range = 12
 
--- its place in the order of checking: 1, 2, 3, 4, 12, 11, 6, 7, 9, 8, 10, 5
+-- an answer in document 01's numbers: 0, or the refusal's number; then the values that come with it
+abbrev pub numbers : Done → List ℕ
+numbers Fine = 0 ∷ []
+numbers (Refused why) = number why ∷ []
+
+-- a refusal's place in the order of checking: 1, 2, 3, 4, 12, 11, 6, 7, 9, 8, 10, 5
 abbrev pub place : Refusal → ℕ
 place BadSize = 0
 place NotMounted = 1
@@ -39,3 +49,14 @@ place Damaged = 11
 abbrev pub onDone {ℓ} : {A : Type ℓ} → Done → (Refusal → A) → A → A
 onDone (Refused why) refuse go = refuse why
 onDone Fine refuse go = go
+
+-- ---- the answers of small questions, by document 01's numbers: 0 and the value, yes as 1 and no as 0, or the refusal's number alone
+
+abbrev pub askedNumbers : Asked → List ℕ
+askedNumbers (Number n) = 0 ∷ n ∷ []
+askedNumbers (Unasked why) = number why ∷ []
+
+abbrev pub whetherNumbers : Whether → List ℕ
+whetherNumbers Yes = 0 ∷ 1 ∷ []
+whetherNumbers No = 0 ∷ 0 ∷ []
+whetherNumbers (Untold why) = number why ∷ []

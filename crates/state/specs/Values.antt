@@ -1,6 +1,6 @@
 -- Files, their table and the state, by document 01, "Files and transactions", and DECISIONS 3, 4 and 12.
 -- Assumes nothing: these are definitions.
-use Prim.Native.Nat.{ℕ, _+_}
+use Prim.Native.Nat.{ℕ, _+_, _-_}
 use mathlib.Core.Bool.{Bool, true, false, cond, _&&_}
 use mathlib.Core.List.{[]}
 use lib.Dec.{leb, ltb, eqb}
@@ -12,6 +12,9 @@ use Rattle.state.specs.declared.types.Table.{Table}
 use Rattle.state.specs.declared.types.Writer.{Writer}
 use Rattle.state.specs.declared.types.Search.{Search}
 use Rattle.state.specs.declared.types.State.{State}
+use Rattle.state.specs.declared.types.Refusal.the-variants.{BadFile, Range}
+use Rattle.state.specs.declared.types.Asked.{Asked}
+use Rattle.state.specs.declared.types.Asked.the-variants.{Number, Refused}
 
 -- ---- files
 
@@ -34,6 +37,13 @@ withFile t i f = record { files = set (t .files) i f }
 -- a file is empty exactly if its last page is none
 abbrev pub isEmpty : FileRecord → Bool
 isEmpty f = eqb (f .«last_page») none
+
+-- how far a number lies behind a file's first one: a file above 7 is BadFile, a number below the first is Range
+unfoldable pub offsetIn : Table → ℕ → ℕ → Asked
+offsetIn t file n =
+    cond (ltb 7 file) (Refused BadFile)
+    (cond (ltb n (fileAt t file .«first_seq»)) (Refused Range)
+    (Number (n - fileAt t file .«first_seq»)))
 
 -- whether a call may follow the record: its last page is below page_count, that page's length is 1 to 224 and leads to last_seq,
 -- and first_seq is below last_seq

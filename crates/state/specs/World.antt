@@ -11,7 +11,7 @@ use Rattle.state.specs.declared.types.Done.{Done}
 use Rattle.state.specs.declared.types.Done.the-variants.{Refused}
 use Rattle.state.specs.declared.types.Out.{Out}
 use Rattle.state.specs.Checks.{checks}
-use Rattle.state.specs.Refusals.{onDone}
+use Rattle.state.specs.Refusals.{numbers, onDone}
 
 pub record World : Type 0 where
   pub image : List ℕ
@@ -59,3 +59,17 @@ before i m t s = record { image = i; map = m; table = t; state = s }
 
 abbrev pub after : Out → List ℕ → List ℕ → After Done
 after r i m = record { answer = r .answer; world = before i m (r .table) (r .state) }
+
+-- ---- the same in document 01's numbers: what the promises speak of
+
+-- an answer in numbers, and the world with it
+abbrev pub inNumbers : {A : Type 0} → (A → List ℕ) → After A → After (List ℕ)
+inNumbers f a = record { answer = f (a .answer); world = a .world }
+
+-- what a call hands back and leaves
+abbrev pub yields : Out → List ℕ → List ℕ → After (List ℕ)
+yields r i m = inNumbers numbers (after r i m)
+
+-- what its definition gives
+abbrev pub promised : (World → Outcome Done) → World → After (List ℕ)
+promised call w = inNumbers numbers (result call w)

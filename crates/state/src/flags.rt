@@ -5,7 +5,7 @@ ghost use mathlib.Core.Path.{_≡_};
 ghost use Rattle.state.specs.Values.{flagged, withFlags};
 
 // Flags stick only to files that are not empty, and mark dirty only if changed.
-pub fn record_flags(f: FileRecord, flags: u8) -> FileRecord
+fn record_flags(f: FileRecord, flags: u8) -> FileRecord
     ensures { λ r. ⌜ r ≡ flagged f flags ⌝ }
 {
     let mut g = f;

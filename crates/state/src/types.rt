@@ -93,6 +93,19 @@ pub enum Done {
     Refused(Refusal),
 }
 
+// The answer of a small question that asks for a number.
+pub enum Asked {
+    Number(u64),
+    Refused(Refusal),
+}
+
+// The answer of one that asks whether.
+pub enum Whether {
+    Yes,
+    No,
+    Refused(Refusal),
+}
+
 // What a call hands back: its answer, and table and state as they are then.
 pub struct Out {
     pub answer: Done,

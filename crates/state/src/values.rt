@@ -1,4 +1,5 @@
 // Fixed values, and the changes of a state that several calls make.
+use crate::types::Asked;
 use crate::types::FileRecord;
 use crate::types::Refusal;
 use crate::types::Search;
@@ -9,8 +10,8 @@ use page::DataHeader;
 ghost use mathlib.Core.Path.{_≡_};
 ghost use Prim.Native.Nat.{_<_};
 ghost use Rattle.page.specs.Page.{noHeader};
-ghost use Rattle.state.specs.Refusals.{number};
-ghost use Rattle.state.specs.Values.{emptyRecord, emptyTable, noWriter, noSearch, unmounted, settled, opened, closed, withCursor, inShape};
+ghost use Rattle.state.specs.Refusals.{number, askedNumbers};
+ghost use Rattle.state.specs.Values.{emptyRecord, emptyTable, noWriter, noSearch, unmounted, settled, opened, closed, withCursor, inShape, offsetIn};
 
 // The header of no page.
 pub fn no_header() -> DataHeader
@@ -153,6 +154,21 @@ pub fn in_shape(f: FileRecord, count: usize) -> bool
         & (h.length <= 224)
         & (end == f.last_seq as u64)
         & (f.first_seq < f.last_seq)
+}
+
+// How far a number lies behind a file's first one: for the small questions of reader and writer.
+pub fn offset_in(table: Table, file: u8, n: u64) -> Asked
+    ensures { λ r. ⌜ askedNumbers r ≡ askedNumbers (offsetIn table file n) ⌝ }
+{
+    if 7 < file {
+        return Asked::Refused(Refusal::BadFile);
+    }
+    let f = table.files[file as usize];
+    let first = f.first_seq as u64;
+    if n < first {
+        return Asked::Refused(Refusal::Range);
+    }
+    Asked::Number(n - first)
 }
 
 // Document 01's number of a refusal.

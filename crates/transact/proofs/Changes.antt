@@ -21,7 +21,7 @@ use Rattle.state.specs.Values.{fileAt, withFile, isEmpty, inShape, flagged, wit
 use Rattle.state.specs.Refusals.{onDone}
 use Rattle.state.specs.Checks.{checks}
 use Rattle.state.specs.World.{World, Outcome, kept, refuse}
-use Rattle.transact.specs.Truncate.{dirtied, others, unreached, heldAll, newFirst, changedFile, truncatedBy, truncateIn, truncate}
+use Rattle.transact.specs.Truncate.{emptied, others, unreached, heldAll, newFirst, changedFile, truncatedBy, truncateIn, truncate}
 use Rattle.transact.specs.Rename.{swapped, changedTable, rename, flags}
 use Rattle.transact.specs.Walks.{follows}
 use Rattle.chain.proofs.Edges.{ends-page}
@@ -49,7 +49,7 @@ unfolding truncate truncateIn
 truncate-changed w i bytes =
     changed-checks w i (seen w i) _
     (changed-cond w i (eqb bytes 0) _ _ (nothing Fine)
-    (changed-cond w i (isEmpty f) _ _ (one (w .map) (dirtied f))
+    (changed-cond w i (isEmpty f) _ _ (one (w .map) emptied)
     (changed-cond w i (inShape (w .state .«page_count») f) _ _ (by (walk (w .state .«page_count») (readAt (w .image)) (f .«first_seq») (lastOf f) .ends))
     (nothing (Refused Damaged)))))
   where

@@ -25,13 +25,14 @@ use Rattle.state.specs.declared.types.Done.{Done}
 use Rattle.state.specs.declared.types.Done.the-variants.{Done as Fine, Refused}
 use Rattle.state.specs.declared.types.Out.{Out}
 use Rattle.state.specs.Values.{fileAt, withFlags, inShape, opened, closed, withMeta, withCursor}
-use Rattle.state.specs.Refusals.{onDone}
+use Rattle.state.specs.Refusals.{numbers, onDone}
 use Rattle.state.specs.Checks.{checks}
-use Rattle.state.specs.World.{World, Outcome, ended, result, kept, refuse, after}
-use Rattle.transact.specs.Truncate.{dirtied, newFirst, cut, unreached, heldAll, changedFile, truncatedBy, truncateIn, truncate}
+use Rattle.state.specs.World.{World, Outcome, ended, result, kept, refuse, after, promised}
+use Rattle.state.proofs.Numbers.{numbers-same, outcome-same}
+use Rattle.transact.specs.Truncate.{emptied, newFirst, cut, unreached, heldAll, changedFile, truncatedBy, truncateIn, truncate}
 use Rattle.transact.specs.Rename.{swapped, changedTable, rename, flags}
 use Rattle.transact.specs.declared.flags.Flagged.{Flagged}
-use Rattle.transact.specs.Flags.{afterFlags, flagsAnswer, flagsTable}
+use Rattle.transact.specs.Flags.{afterFlags, flagsYield, flagsAnswer, flagsTable}
 use Rattle.transact.specs.Commit.{dirtyFiles, liveFiles, committed, movedTo, moved, appendedAt, commitBatch, commit}
 use Rattle.transact.specs.Handed.{refused, changed}
 use Rattle.transact.specs.Walks.{follows}
@@ -86,7 +87,7 @@ module _ (w : World) (i bytes : ℕ) where
   unfolding truncate
   truncate-none e h = rw (e, eq-eqb bytes 0 h)
 
-  pub truncate-empty : Checked w i Fine → (bytes ≡ 0 → ⊥) → file .«last_page» ≡ none → truncate w i bytes ≡ changedFile w i (w .map) (dirtied file)
+  pub truncate-empty : Checked w i Fine → (bytes ≡ 0 → ⊥) → file .«last_page» ≡ none → truncate w i bytes ≡ changedFile w i (w .map) emptied
   unfolding truncate truncateIn
   truncate-empty e h k = rw (e, ne-eqb bytes 0 h, eq-eqb (file .«last_page») none k)
 
@@ -203,3 +204,7 @@ flags-is w i n a t e h = rw (e, h) (by (checks (length (w .image)) (length (w .m
         ≡ ended w (onDone d (refuse w) (changedTable w (withFlags (w .table) i n)))
     by (Refused why) = refl
     by Fine = refl
+
+-- a promise of it that is kept in numbers is kept
+pub flags-same : (call : World → Outcome Done) (w : World) (r : Flagged) (t : Table) (i m : List ℕ) → flagsYield r t i m ≡ promised call w → afterFlags r t i m ≡ result call w
+flags-same call w r t i m e = outcome-same numbers numbers-same (afterFlags r t i m) (result call w) e

@@ -7,13 +7,17 @@ use Rattle.state.specs.declared.types.Done.{Done}
 use Rattle.state.specs.declared.types.Done.the-variants.{Done as Fine, Refused}
 use Rattle.state.specs.Values.{opened, withFlags}
 use Rattle.state.specs.Checks.{checks}
-use Rattle.state.specs.Refusals.{onDone}
-use Rattle.state.specs.World.{After, before}
+use Rattle.state.specs.Refusals.{numbers, onDone}
+use Rattle.state.specs.World.{After, before, inNumbers}
 use Rattle.transact.specs.declared.flags.Flagged.{Flagged}
 
 -- the world after it: the caller's table t as it is then
 abbrev pub afterFlags : Flagged → Table → List ℕ → List ℕ → After Done
 afterFlags r t i m = record { answer = r .answer; world = before i m t (r .state) }
+
+-- the same in document 01's numbers: what the promise speaks of
+abbrev pub flagsYield : Flagged → Table → List ℕ → List ℕ → After (List ℕ)
+flagsYield r t i m = inNumbers numbers (afterFlags r t i m)
 
 -- ---- for the two functions by value
 

@@ -66,10 +66,10 @@ truncatedBy w i f first damaged = refuse w Damaged
 truncatedBy w i f first (at q) =
     changedFile w i (heldAll (w .map) (unreached (w .image) (w .state .«page_count») f first)) (cut f first)
 
--- the whole walk is checked before anything changes
+-- the whole walk is checked before anything changes; of an empty file nothing remains, whatever its record says
 unfoldable pub truncateIn : World → ℕ → FileRecord → ℕ → Outcome Done
 truncateIn w i f bytes =
-    cond (isEmpty f) (changedFile w i (w .map) (dirtied f))
+    cond (isEmpty f) (changedFile w i (w .map) emptied)
     (cond (inShape (w .state .«page_count») f)
     (truncatedBy w i f (newFirst f bytes) (walk (w .state .«page_count») (readAt (w .image)) (f .«first_seq») (lastOf f) .ends))
     (refuse w Damaged))

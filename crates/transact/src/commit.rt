@@ -15,7 +15,7 @@ ghost use lib.ListN.{set};
 ghost use Rattle.map.specs.Map.{used, free, released};
 ghost use Rattle.log.specs.Log.{logEnd};
 ghost use Rattle.state.specs.Values.{closed, withMeta, withCursor};
-ghost use Rattle.state.specs.World.{before, after, result};
+ghost use Rattle.state.specs.World.{before, after, result, yields, promised};
 ghost use Rattle.transact.specs.Commit.{dirtyFiles, moved, appendedAt, commit};
 
 // The map after a move: the new page is used, held pages are free, and so is the old page.
@@ -97,8 +97,8 @@ fn commit_batch(image: &mut [u8], map: &mut [u8], table: Table, state: State) ->
 
 // Commits the dirty files. With none dirty nothing is stored and the log is not looked at.
 pub fn commit(image: &mut [u8], map: &mut [u8], table: Table, state: State) -> Out
-    ensures { λ r. ⌜ after r (now (image .exit)) (now (map .exit))
-        ≡ result commit (before (now (image .entry)) (now (map .entry)) table state) ⌝ }
+    ensures { λ r. ⌜ yields r (now (image .exit)) (now (map .exit))
+        ≡ promised commit (before (now (image .entry)) (now (map .entry)) table state) ⌝ }
 {
     let writer = state.writer;
     let seen = state::checks::check(image.len(), map.len(), state, writer.active, 0);

@@ -7,7 +7,7 @@ use state::types::State;
 use state::types::Table;
 ghost use mathlib.Core.Path.{_≡_};
 ghost use Prim.Native.Nat.{_<_};
-ghost use Rattle.transact.specs.Truncate.{dirtied, newFirst, cut};
+ghost use Rattle.transact.specs.Truncate.{dirtied, newFirst, emptied, cut};
 ghost use Rattle.transact.specs.Handed.{refused, changed};
 
 // The record with its dirty mark set.
@@ -33,16 +33,23 @@ pub fn new_first(f: FileRecord, bytes: usize) -> u32
     f.first_seq + bytes as u32
 }
 
+// The record of a file of which nothing remains, dirty.
+pub fn emptied() -> FileRecord
+    ensures { λ r. ⌜ r ≡ emptied ⌝ }
+{
+    let mut g = state::values::empty_record();
+    g.dirty = true;
+    g
+}
+
 // The record with that first_seq, dirty; where nothing remains it is empty.
 pub fn cut(f: FileRecord, first: u32) -> FileRecord
     ensures { λ r. ⌜ r ≡ cut f first ⌝ }
 {
-    let mut g = f;
     if first == f.last_seq {
-        g = state::values::empty_record();
-        g.dirty = true;
-        return g;
+        return emptied();
     }
+    let mut g = f;
     g.dirty = true;
     g.first_seq = first;
     g

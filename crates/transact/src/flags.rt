@@ -5,9 +5,9 @@ use state::types::State;
 use state::types::Table;
 ghost use mathlib.Core.Path.{_≡_};
 ghost use lib.ListN.{length};
-ghost use Rattle.state.specs.World.{before, after, result};
+ghost use Rattle.state.specs.World.{before, yields, promised};
 ghost use Rattle.transact.specs.Rename.{flags as changedBy};
-ghost use Rattle.transact.specs.Flags.{flagsAnswer, flagsTable, afterFlags};
+ghost use Rattle.transact.specs.Flags.{flagsAnswer, flagsTable, flagsYield};
 
 // The answer, and the state after it.
 pub struct Flagged {
@@ -55,8 +55,8 @@ pub fn change_flags(
     file: u8,
     flags: u8,
 ) -> Flagged
-    ensures { λ r. ⌜ afterFlags r (now (table .exit)) (now (image .entry)) (now (map .entry))
-        ≡ result (λ w. changedBy w file flags) (before (now (image .entry)) (now (map .entry)) (now (table .entry)) state) ⌝ }
+    ensures { λ r. ⌜ flagsYield r (now (table .exit)) (now (image .entry)) (now (map .entry))
+        ≡ promised (λ w. changedBy w file flags) (before (now (image .entry)) (now (map .entry)) (now (table .entry)) state) ⌝ }
 {
     let out = flags_answer(image, map, state, file);
     *table = flags_table(image, map, *table, state, file, flags);
@@ -65,8 +65,8 @@ pub fn change_flags(
 
 // The same by value, for callers that cannot lend a table: it goes in and comes back.
 pub fn changed(image: &[u8], map: &[u8], table: Table, state: State, file: u8, flags: u8) -> Out
-    ensures { λ r. ⌜ after r (now (image .entry)) (now (map .entry))
-        ≡ result (λ w. changedBy w file flags) (before (now (image .entry)) (now (map .entry)) table state) ⌝ }
+    ensures { λ r. ⌜ yields r (now (image .entry)) (now (map .entry))
+        ≡ promised (λ w. changedBy w file flags) (before (now (image .entry)) (now (map .entry)) table state) ⌝ }
 {
     let writer = state.writer;
     let seen = state::checks::check(image.len(), map.len(), state, writer.active, file);

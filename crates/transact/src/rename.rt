@@ -7,7 +7,7 @@ use state::types::State;
 use state::types::Table;
 ghost use mathlib.Core.Path.{_≡_};
 ghost use Prim.Native.Nat.{_<_};
-ghost use Rattle.state.specs.World.{before, after, result};
+ghost use Rattle.state.specs.World.{before, yields, promised};
 ghost use Rattle.transact.specs.Rename.{swapped, rename};
 
 // Both are marked dirty, also where they are the same.
@@ -27,8 +27,8 @@ fn swap(table: Table, i: usize, j: usize) -> Table
 
 // Swaps two files, also one with itself, and marks both dirty.
 pub fn rename(image: &[u8], map: &[u8], table: Table, state: State, from: u8, to: u8) -> Out
-    ensures { λ r. ⌜ after r (now (image .entry)) (now (map .entry))
-        ≡ result (λ w. rename w from to) (before (now (image .entry)) (now (map .entry)) table state) ⌝ }
+    ensures { λ r. ⌜ yields r (now (image .entry)) (now (map .entry))
+        ≡ promised (λ w. rename w from to) (before (now (image .entry)) (now (map .entry)) table state) ⌝ }
 {
     let writer = state.writer;
     let seen = state::checks::check(image.len(), map.len(), state, writer.active, from);

@@ -7,7 +7,7 @@ use state::types::Refusal;
 use state::types::State;
 use state::types::Table;
 ghost use mathlib.Core.Path.{_≡_};
-ghost use Rattle.state.specs.World.{before, after, result};
+ghost use Rattle.state.specs.World.{before, yields, promised};
 ghost use Rattle.transact.specs.Truncate.{truncate};
 
 // Advances first_seq by the smaller of bytes and length. The whole walk is checked before anything changes.
@@ -19,8 +19,8 @@ pub fn truncate(
     file: u8,
     bytes: usize,
 ) -> Out
-    ensures { λ r. ⌜ after r (now (image .entry)) (now (map .exit))
-        ≡ result (λ w. truncate w file bytes) (before (now (image .entry)) (now (map .entry)) table state) ⌝ }
+    ensures { λ r. ⌜ yields r (now (image .entry)) (now (map .exit))
+        ≡ promised (λ w. truncate w file bytes) (before (now (image .entry)) (now (map .entry)) table state) ⌝ }
 {
     let writer = state.writer;
     let seen = state::checks::check(image.len(), map.len(), state, writer.active, file);
@@ -37,7 +37,7 @@ pub fn truncate(
     let i = file as usize;
     let f = table.files[i];
     if f.last_page == 65535 {
-        return files::change(table, state, i, files::dirty(f));
+        return files::change(table, state, i, files::emptied());
     }
     let count = state.page_count as usize;
     let first = files::new_first(f, bytes);

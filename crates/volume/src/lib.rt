@@ -18,10 +18,10 @@ ghost use Rattle.page.specs.Page.{pageOf, metaOf};
 ghost use Rattle.page.specs.Store.{ran};
 ghost use Rattle.map.specs.Map.{cleared, used};
 ghost use Rattle.chain.specs.Steps.{readAt, walk};
-ghost use Rattle.state.specs.World.{before, after, result};
+ghost use Rattle.state.specs.World.{before, after, result, yields, promised};
 ghost use Rattle.volume.specs.Scan.{better, scan};
 ghost use Rattle.volume.specs.Format.{erasedIf, erasures, formatStores, format};
-ghost use Rattle.volume.specs.Mount.{claimed, load, loadFrom, bestOk, mountFrom, mountBest, mountWith, mount};
+ghost use Rattle.volume.specs.Mount.{claimed, load, loadFrom, bestOk, mountFrom, mountBest, mount};
 ghost use Rattle.volume.specs.Loads.{markedAs, loadedAs, allAs, noFile, noTable};
 
 // The best metadata page so far: seq 0 is none yet.
@@ -46,7 +46,7 @@ struct TableLoad {
 // ---- the scan
 
 // The better of the best so far and what was read on a page: only a higher seq replaces it.
-pub fn better_meta(best: Best, page: usize, read: MetaRead) -> Best
+fn better_meta(best: Best, page: usize, read: MetaRead) -> Best
     ensures { λ r. ⌜ r ≡ better best page read ⌝ }
 {
     let MetaRead::Found(m) = read else {
@@ -63,7 +63,7 @@ pub fn better_meta(best: Best, page: usize, read: MetaRead) -> Best
 }
 
 // The best metadata page of the first so many pages.
-pub fn scan_meta(image: &[u8], pages: usize) -> Best
+fn scan_meta(image: &[u8], pages: usize) -> Best
     ensures { λ r. ⌜ r ≡ scan (now (image .entry)) pages ⌝ }
 {
     let mut best = Best {
@@ -128,7 +128,7 @@ fn fresh_map(map: &mut [u8], count: usize, p: usize)
 }
 
 pub fn format(image: &mut [u8], map: &mut [u8], table: Table, state: State) -> Out
-    ensures { λ r. ⌜ after r (now (image .exit)) (now (map .exit)) ≡ result format (before (now (image .entry)) (now (map .entry)) table state) ⌝ }
+    ensures { λ r. ⌜ yields r (now (image .exit)) (now (map .exit)) ≡ promised format (before (now (image .entry)) (now (map .entry)) table state) ⌝ }
 {
     let n = map.len();
     if state::checks::sizes_fit(image.len(), n) {
@@ -313,24 +313,10 @@ fn mount_best(image: &[u8], map: &mut [u8], table: Table, state: State, best: Be
     }
 }
 
-// ---- mount: the calls
-
-// From the best page that a scan found, whatever scan.
-pub fn mount_from(image: &[u8], map: &mut [u8], table: Table, state: State, best: Best) -> Out
-    ensures { λ r. ⌜ after r (now (image .entry)) (now (map .exit)) ≡ result (λ w. mountWith w best) (before (now (image .entry)) (now (map .entry)) table state) ⌝ }
-{
-    if state::checks::sizes_fit(image.len(), map.len()) {
-        return mount_best(image, map, table, state, best);
-    }
-    Out {
-        answer: Done::Refused(Refusal::BadSize),
-        table,
-        state,
-    }
-}
+// ---- mount: the call
 
 pub fn mount(image: &[u8], map: &mut [u8], table: Table, state: State) -> Out
-    ensures { λ r. ⌜ after r (now (image .entry)) (now (map .exit)) ≡ result mount (before (now (image .entry)) (now (map .entry)) table state) ⌝ }
+    ensures { λ r. ⌜ yields r (now (image .entry)) (now (map .exit)) ≡ promised mount (before (now (image .entry)) (now (map .entry)) table state) ⌝ }
 {
     let n = map.len();
     if state::checks::sizes_fit(image.len(), n) {

@@ -10,8 +10,8 @@ use Rattle.page.specs.declared.DataHeader.{DataHeader}
 use Rattle.page.specs.Store.{ran, dataStores}
 use Rattle.map.specs.declared.Alloc.{Alloc}
 use Rattle.map.specs.declared.Alloc.the-variants.{Page, Full}
-use Rattle.map.specs.Map.{Allocation, allocOf, usedBy, beyond, allocated, leaves as gives}
-use Rattle.map.proofs.Laws.{alloc-found, beyond-inside}
+use Rattle.map.specs.Map.{allocOf, usedBy, beyond, allocated, leaves as gives}
+use Rattle.map.proofs.Laws.{allocated-answer, allocated-left, alloc-found, beyond-inside}
 use Rattle.state.specs.declared.types.Writer.{Writer}
 use Rattle.writer.specs.declared.write.Pen.{Pen}
 use Rattle.writer.specs.Staging.{isStaged, stagedLinks, stagedHeader, flushStores, flushed, onPage, space}
@@ -23,10 +23,9 @@ use Rattle.writer.proofs.Sounds.{flushes, next-is}
 
 pub alloc-told : (m m′ : List ℕ) (count cursor : ℕ) (a : Alloc) → gives a m′ ≡ allocated m count cursor
     → (allocOf m count cursor ≡ a) × (m′ ≡ usedBy m a)
-unfolding allocated
 alloc-told m m′ count cursor a e =
-    let f : a ≡ allocOf m count cursor = ap (λ (z : Allocation). z .answer) e in
-    (sym f, ap (λ (z : Allocation). z .left) e ∙ ap (usedBy m) (sym f))
+    let f = sym (allocated-answer m m′ count cursor a e) in
+    (f, allocated-left m m′ count cursor a e ∙ ap (usedBy m) f)
 
 pub alloc-small : (m m′ : List ℕ) (count cursor i : ℕ) (a : Alloc) → gives a m′ ≡ allocated m count cursor → a ≡ Page i → cursor < count → i < count
 alloc-small m m′ count cursor i a e p h =

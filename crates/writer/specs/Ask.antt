@@ -1,24 +1,27 @@
--- The writer's small questions. Where no writer is open there is no room. Assumes nothing: these are definitions.
-use Prim.Native.Nat.{ℕ, _+_, _-_}
+-- The writer's small questions; DECISIONS 46. Assumes nothing: these are definitions.
+use Prim.Native.Nat.{_+_}
 use mathlib.Core.Bool.{cond}
-use lib.Dec.{ltb}
 use Rattle.state.specs.declared.types.Table.{Table}
+use Rattle.state.specs.declared.types.Writer.{Writer}
 use Rattle.state.specs.declared.types.State.{State}
-use Rattle.state.specs.Values.{fileAt}
+use Rattle.state.specs.declared.types.Refusal.the-variants.{NoSearch}
+use Rattle.state.specs.declared.types.Asked.{Asked}
+use Rattle.state.specs.declared.types.Asked.the-variants.{Number, Refused}
+use Rattle.state.specs.Values.{offsetIn}
 use Rattle.writer.specs.Staging.{space}
 
+-- with no writer open all of them are NoSearch
+abbrev pub ofWriter : State → (Writer → Asked) → Asked
+ofWriter s says = cond (s .writer .active) (says (s .writer)) (Refused NoSearch)
+
 -- what is left on the staged page
-abbrev pub spaceLeft : State → ℕ
-spaceLeft s = cond (s .writer .active) (space (s .writer)) 0
+abbrev pub spaceLeft : State → Asked
+spaceLeft s = ofWriter s (λ w. Number (space w))
 
 -- the number of the next byte
-abbrev pub currSeq : State → ℕ
-currSeq s = s .writer .seq + s .writer .length
+abbrev pub currSeq : State → Asked
+currSeq s = ofWriter s (λ w. Number (w .seq + w .length))
 
--- the first number of a file, and 0 where there is no such file
-abbrev pub firstOf : Table → ℕ → ℕ
-firstOf t i = cond (ltb i 8) (fileAt t i .«first_seq») 0
-
--- how far the next byte lies from the file's first
-abbrev pub offsetOf : Table → State → ℕ
-offsetOf t s = currSeq s - firstOf t (s .writer .file)
+-- how far it lies behind the first one of the writer's file
+abbrev pub offsetOf : Table → State → Asked
+offsetOf t s = ofWriter s (λ w. offsetIn t (w .file) (w .seq + w .length))

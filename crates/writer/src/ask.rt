@@ -1,46 +1,40 @@
-// The writer's small questions.
+// The writer's small questions (DECISIONS 46): each looks at no more than it is handed.
+use state::types::Asked;
+use state::types::Refusal;
 use state::types::State;
 use state::types::Table;
 ghost use mathlib.Core.Path.{_≡_};
-ghost use Rattle.writer.specs.Ask.{spaceLeft, currSeq, firstOf, offsetOf};
+ghost use Rattle.state.specs.Refusals.{askedNumbers};
+ghost use Rattle.writer.specs.Ask.{spaceLeft, currSeq, offsetOf};
 
-pub fn space_left_on_current_page(state: State) -> usize
-    ensures { λ r. ⌜ r ≡ spaceLeft state ⌝ }
+pub fn space_left_on_current_page(state: State) -> Asked
+    ensures { λ r. ⌜ askedNumbers r ≡ askedNumbers (spaceLeft state) ⌝ }
 {
     let w = state.writer;
     if w.active {
-        return crate::staging::space_left(w) as usize;
+        return Asked::Number(crate::staging::space_left(w) as u64);
     }
-    0
+    Asked::Refused(Refusal::NoSearch)
 }
 
 // The number of the next byte.
-pub fn curr_seq(state: State) -> u64
-    ensures { λ r. ⌜ r ≡ currSeq state ⌝ }
+pub fn curr_seq(state: State) -> Asked
+    ensures { λ r. ⌜ askedNumbers r ≡ askedNumbers (currSeq state) ⌝ }
 {
     let w = state.writer;
-    (w.seq as u64) + (w.length as u64)
-}
-
-fn first_of(table: Table, file: u8) -> u32
-    ensures { λ r. ⌜ r ≡ firstOf table file ⌝ }
-{
-    if 8 <= file {
-        return 0;
+    if w.active {
+        return Asked::Number((w.seq as u64) + (w.length as u64));
     }
-    let f = table.files[file as usize];
-    f.first_seq
+    Asked::Refused(Refusal::NoSearch)
 }
 
-// How far it lies from the file's first, which it is never below while a writer is open on a file in shape.
-pub fn offset(table: Table, state: State) -> u64
-    ensures { λ r. ⌜ r ≡ offsetOf table state ⌝ }
+// How far it lies behind the first one of the writer's file.
+pub fn offset(table: Table, state: State) -> Asked
+    ensures { λ r. ⌜ askedNumbers r ≡ askedNumbers (offsetOf table state) ⌝ }
 {
     let w = state.writer;
-    let first = first_of(table, w.file) as u64;
-    let at = curr_seq(state);
-    if at < first {
-        return 0;
+    if w.active {
+        return state::values::offset_in(table, w.file, (w.seq as u64) + (w.length as u64));
     }
-    at - first
+    Asked::Refused(Refusal::NoSearch)
 }

@@ -14,7 +14,7 @@ ghost use mathlib.Core.Bool.{true};
 ghost use Prim.Native.Nat.{_+_, _≤_, _<_};
 ghost use Rattle.chain.specs.Steps.{readAt};
 ghost use Rattle.state.specs.Values.{fileAt, withFile, noWriter, withWriter};
-ghost use Rattle.state.specs.World.{before, after, ended, result};
+ghost use Rattle.state.specs.World.{before, after, ended, yields, promised};
 ghost use Rattle.writer.specs.Staging.{stagedHeader, previousOf};
 ghost use Rattle.writer.specs.Finish.{marked, grown, finished, finish, backFrom, discard};
 ghost use Rattle.writer.specs.Inner.{unbroken, freedBy};
@@ -68,7 +68,7 @@ fn finish_page(image: &mut [u8], map: &mut [u8], table: Table, state: State) -> 
 }
 
 pub fn finish(image: &mut [u8], map: &mut [u8], table: Table, state: State) -> Out
-    ensures { λ r. ⌜ after r (now (image .exit)) (now (map .exit)) ≡ result finish (before (now (image .entry)) (now (map .entry)) table state) ⌝ }
+    ensures { λ r. ⌜ yields r (now (image .exit)) (now (map .exit)) ≡ promised finish (before (now (image .entry)) (now (map .entry)) table state) ⌝ }
 {
     let checked = state::checks::check(image.len(), map.len(), state, false, 0);
     let Done::Done = checked else {
@@ -136,7 +136,7 @@ fn free_back(image: &[u8], map: &mut [u8], count: usize, p: PagePointer, n: u32)
 
 // Exactly the pages that this writer allocated are free at once; the cursor stays.
 pub fn discard(image: &[u8], map: &mut [u8], table: Table, state: State) -> Out
-    ensures { λ r. ⌜ after r (now (image .entry)) (now (map .exit)) ≡ result discard (before (now (image .entry)) (now (map .entry)) table state) ⌝ }
+    ensures { λ r. ⌜ yields r (now (image .entry)) (now (map .exit)) ≡ promised discard (before (now (image .entry)) (now (map .entry)) table state) ⌝ }
 {
     let checked = state::checks::check(image.len(), map.len(), state, false, 0);
     let Done::Done = checked else {

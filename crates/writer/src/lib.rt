@@ -2,5 +2,5 @@
 pub mod ask;
 pub mod finish;
 pub mod open;
-pub mod staging;
+mod staging;
 pub mod write;

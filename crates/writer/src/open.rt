@@ -13,7 +13,7 @@ ghost use mathlib.Core.Path.{_≡_};
 ghost use Prim.Native.Nat.{_+_, _*_, _≤_, _<_};
 ghost use lib.ListN.{length};
 ghost use Rattle.map.specs.Map.{allocOf};
-ghost use Rattle.state.specs.World.{before, after, ended, result};
+ghost use Rattle.state.specs.World.{before, after, ended, yields, promised};
 ghost use Rattle.writer.specs.Open.{readyWriter, noPage, copyWriter, readied, copiedTo, openLast, openIn, openWriter};
 ghost use Rattle.writer.specs.Inner.{outOf, Sized, Stands};
 ghost use Rattle.state.specs.Values.{withWriter};
@@ -177,7 +177,7 @@ fn open_in(image: &[u8], map: &mut [u8], table: Table, state: State, file: u8, f
 }
 
 pub fn open(image: &[u8], map: &mut [u8], table: Table, state: State, file: u8) -> Out
-    ensures { λ r. ⌜ after r (now (image .entry)) (now (map .exit)) ≡ result (λ w. openWriter w file) (before (now (image .entry)) (now (map .entry)) table state) ⌝ }
+    ensures { λ r. ⌜ yields r (now (image .entry)) (now (map .exit)) ≡ promised (λ w. openWriter w file) (before (now (image .entry)) (now (map .entry)) table state) ⌝ }
 {
     let w = state.writer;
     let checked = state::checks::check(image.len(), map.len(), state, w.active, file);

@@ -12,7 +12,7 @@ ghost use Prim.Native.Nat.{_+_, _≤_, _<_};
 ghost use lib.ListN.{length};
 ghost use Rattle.page.specs.Store.{ran};
 ghost use Rattle.state.specs.Values.{withCursor, withWriter};
-ghost use Rattle.state.specs.World.{before, after, result};
+ghost use Rattle.state.specs.World.{before, yields, promised};
 ghost use Rattle.writer.specs.Staging.{stagedHeader, nextBoundary, flushed, onPage, filledBy, recordEnded};
 ghost use Rattle.writer.specs.Write.{nextPage, ready, writeFrom, write, recordEnd};
 ghost use Rattle.writer.specs.Inner.{withStaged, storesOf, unstaged, makes, begins, leaves, Able, Sound, mayWrite, writes, written};
@@ -196,7 +196,7 @@ fn may_write(map: &[u8], state: State, len: usize) -> Done
 
 // Whole or refused.
 pub fn write(image: &mut [u8], map: &mut [u8], table: Table, state: State, bytes: &[u8]) -> Out
-    ensures { λ r. ⌜ after r (now (image .exit)) (now (map .exit)) ≡ result (λ w. write w (now (bytes .entry))) (before (now (image .entry)) (now (map .entry)) table state) ⌝ }
+    ensures { λ r. ⌜ yields r (now (image .exit)) (now (map .exit)) ≡ promised (λ w. write w (now (bytes .entry))) (before (now (image .entry)) (now (map .entry)) table state) ⌝ }
 {
     let checked = state::checks::check(image.len(), map.len(), state, false, 0);
     let Done::Done = checked else {
@@ -246,7 +246,7 @@ fn ended(w: Writer) -> Writer
 }
 
 pub fn record_end(image: &[u8], map: &[u8], table: Table, state: State) -> Out
-    ensures { λ r. ⌜ after r (now (image .entry)) (now (map .entry)) ≡ result recordEnd (before (now (image .entry)) (now (map .entry)) table state) ⌝ }
+    ensures { λ r. ⌜ yields r (now (image .entry)) (now (map .entry)) ≡ promised recordEnd (before (now (image .entry)) (now (map .entry)) table state) ⌝ }
 {
     let checked = state::checks::check(image.len(), map.len(), state, false, 0);
     let Done::Done = checked else {

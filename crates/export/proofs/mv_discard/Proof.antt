@@ -15,7 +15,7 @@ same-length : tie.Need-same-length
 same-length c = search needs
 
 returns : tie.Need-returns
-returns c = replied-is _ _ _ _ _ (c .reply-of .ensures) (c .before .before .before .discard .ensures)
+returns c = replied-is _ (c .before .before .before .discard .result) _ _ _ (c .reply-of .ensures) (c .before .before .before .discard .ensures)
 
 pub mv-discard-spec : {M : Type 1} → statement M
 mv-discard-spec = tie.close (tie.spec discard-requires reply-of-requires same-length returns)

@@ -12,7 +12,7 @@ reply-of-requires : tie.Need-reply-of-requires
 reply-of-requires c κs = search needs
 
 returns : tie.Need-returns
-returns c = replied-is _ _ _ _ _ (c .reply-of .ensures) (c .before .changed .ensures)
+returns c = replied-is _ (c .before .changed .result) _ _ _ (c .reply-of .ensures) (c .before .changed .ensures)
 
 pub mv-flags-spec : {M : Type 1} → statement M
 mv-flags-spec = tie.close (tie.spec changed-requires reply-of-requires returns)

@@ -15,7 +15,7 @@ same-length : tie.Need-same-length
 same-length c = search needs
 
 returns : tie.Need-returns
-returns c = replied-is _ _ _ _ _ (c .reply-of .ensures) (c .before .before .before .mount .ensures)
+returns c = replied-is _ (c .before .before .before .mount .result) _ _ _ (c .reply-of .ensures) (c .before .before .before .mount .ensures)
 
 pub mv-mount-spec : {M : Type 1} → statement M
 mv-mount-spec = tie.close (tie.spec mount-requires reply-of-requires same-length returns)

@@ -15,7 +15,7 @@ same-length : tie.Need-same-length
 same-length c = search needs
 
 returns : tie.Need-returns
-returns c = replied-is _ _ _ _ _ (c .reply-of .ensures) (c .before .before .before .open .ensures)
+returns c = replied-is _ (c .before .before .before .open .result) _ _ _ (c .reply-of .ensures) (c .before .before .before .open .ensures)
 
 pub mv-open-spec : {M : Type 1} → statement M
 mv-open-spec = tie.close (tie.spec open-requires reply-of-requires same-length returns)

@@ -15,7 +15,7 @@ same-length : tie.Need-same-length
 same-length c = search needs
 
 returns : tie.Need-returns
-returns c = read-is _ _ _ _ (c .read-reply .ensures) (c .before .before .before .read .ensures)
+returns c = read-is _ (c .before .before .before .read .result) _ _ (c .read-reply .ensures) (c .before .before .before .read .ensures)
 
 pub mv-read-spec : {M : Type 1} → statement M
 mv-read-spec = tie.close (tie.spec read-requires read-reply-requires same-length returns)

@@ -12,7 +12,7 @@ reply-of-requires : tie.Need-reply-of-requires
 reply-of-requires c κs = search needs
 
 returns : tie.Need-returns
-returns c = replied-is _ _ _ _ _ (c .reply-of .ensures) (c .before .record-end .ensures)
+returns c = replied-is _ (c .before .record-end .result) _ _ _ (c .reply-of .ensures) (c .before .record-end .ensures)
 
 pub mv-record-end-spec : {M : Type 1} → statement M
 mv-record-end-spec = tie.close (tie.spec record-end-requires reply-of-requires returns)

@@ -12,7 +12,7 @@ reply-of-requires : tie.Need-reply-of-requires
 reply-of-requires c κs = search needs
 
 returns : tie.Need-returns
-returns c = replied-is _ _ _ _ _ (c .reply-of .ensures) (c .before .rename .ensures)
+returns c = replied-is _ (c .before .rename .result) _ _ _ (c .reply-of .ensures) (c .before .rename .ensures)
 
 pub mv-rename-spec : {M : Type 1} → statement M
 mv-rename-spec = tie.close (tie.spec rename-requires reply-of-requires returns)

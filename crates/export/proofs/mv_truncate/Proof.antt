@@ -15,7 +15,7 @@ same-length : tie.Need-same-length
 same-length c = search needs
 
 returns : tie.Need-returns
-returns c = replied-is _ _ _ _ _ (c .reply-of .ensures) (c .before .before .before .truncate .ensures)
+returns c = replied-is _ (c .before .before .before .truncate .result) _ _ _ (c .reply-of .ensures) (c .before .before .before .truncate .ensures)
 
 pub mv-truncate-spec : {M : Type 1} → statement M
 mv-truncate-spec = tie.close (tie.spec truncate-requires reply-of-requires same-length returns)

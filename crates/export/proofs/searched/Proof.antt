@@ -12,7 +12,7 @@ sought-requires : tie.Need-sought-requires
 sought-requires c κs = search needs
 
 returns : tie.Need-returns
-returns c = sought-is _ _ _ _ _ _ _ (c .sought .ensures) (c .before .search .ensures)
+returns c = sought-is _ (c .before .search .result) _ _ _ _ _ (c .sought .ensures) (c .before .search .ensures)
 
 pub searched-spec : {M : Type 1} → statement M
 searched-spec = tie.close (tie.spec search-requires sought-requires returns)

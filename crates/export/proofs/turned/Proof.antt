@@ -12,7 +12,7 @@ sought-requires : tie.Need-sought-requires
 sought-requires c κs = search needs
 
 returns : tie.Need-returns
-returns c = λ t. sought-is _ _ _ _ _ _ _ (c .sought .ensures) (c .before .turn .ensures t)
+returns c = λ t. sought-is _ (c .before .turn .result) _ _ _ _ _ (c .sought .ensures) (c .before .turn .ensures t)
 
 pub turned-spec : {M : Type 1} → statement M
 turned-spec = tie.close (tie.spec turn-requires sought-requires returns)

@@ -1,11 +1,13 @@
 -- `volume::format` meets its contract.
 -- Assumes nothing.
-use mathlib.Core.Path.{sym, _∙_}
+use mathlib.Core.Path.{sym, ap, _∙_}
 use Prim.Native.Nat.{_%_}
 use native.Mathlib.Nat.{mod-lt}
 use native.Mathlib.Omega.{arith}
 use lib.ListN.{length}
 use Rattle.map.proofs.Laws.{beyond-inside}
+use Rattle.state.specs.Refusals.{numbers}
+use Rattle.state.specs.World.{inNumbers}
 use Rattle.state.proofs.Laws.{sizes-say}
 use Rattle.volume.proofs.Calls.{format-refused, format-done}
 use borrow.Author.Needs.{needs}
@@ -50,13 +52,14 @@ returns c =
     let at-seed-step = at-format-image .before .before in
     let at-if1 = at-seed-step .before in
     let at-sizes-fit = at-if1 .before in
-    format-done _ _ _ _ (sym (at-sizes-fit .sizes-fit .ensures) ∙ at-if1 .if1 .taken) _ (at-seed-step .seed-step .ensures) _ _ _ _ _
-    (at-format-image .format-image .ensures) (at-fresh-map .fresh-map .ensures) (at-empty-table .empty-table .ensures) (at-beyond-page .beyond-page .ensures) (c .settle .ensures)
+    ap (inNumbers numbers)
+    (format-done _ _ _ _ (sym (at-sizes-fit .sizes-fit .ensures) ∙ at-if1 .if1 .taken) _ (at-seed-step .seed-step .ensures) _ _ _ _ _
+    (at-format-image .format-image .ensures) (at-fresh-map .fresh-map .ensures) (at-empty-table .empty-table .ensures) (at-beyond-page .beyond-page .ensures) (c .settle .ensures))
 
 returns-2 : tie.Need-returns-2
 returns-2 c =
     let at-sizes-fit = c .before in
-    format-refused _ _ _ _ (sym (at-sizes-fit .sizes-fit .ensures) ∙ c .if1 .left)
+    ap (inNumbers numbers) (format-refused _ _ _ _ (sym (at-sizes-fit .sizes-fit .ensures) ∙ c .if1 .left))
 
 pub format-spec : {M : Type 1} → statement M
 format-spec = tie.close (tie.spec (λ c κs. search needs) cast-pages (λ c κs. search needs) (λ c. search needs) rem-p (λ c κs. search needs) (λ c κs. search needs) (λ c κs. search needs) cast-cursor (λ c κs. search needs) cast-settle (λ c κs. search needs) (λ c. search needs) (λ c. search needs) returns returns-2)

@@ -1,6 +1,8 @@
 -- `volume::mount` meets its contract.
 -- Assumes nothing.
-use mathlib.Core.Path.{refl, sym, _∙_}
+use mathlib.Core.Path.{refl, sym, ap, _∙_}
+use Rattle.state.specs.Refusals.{numbers}
+use Rattle.state.specs.World.{inNumbers}
 use Rattle.state.proofs.Laws.{sizes-say}
 use Rattle.volume.proofs.Calls.{with-refused, with-sizes, mount-is}
 use borrow.Author.Needs.{needs}
@@ -19,14 +21,15 @@ returns c =
     let at-scan-meta = at-mount-best .before .before in
     let at-if1 = at-scan-meta .before in
     let at-sizes-fit = at-if1 .before in
-    at-mount-best .mount-best .ensures
+    ap (inNumbers numbers)
+    (at-mount-best .mount-best .ensures
     ∙ with-sizes _ _ _ _ _ (sym (at-sizes-fit .sizes-fit .ensures) ∙ at-if1 .if1 .taken)
-    ∙ mount-is _ _ _ _ _ (at-scan-meta .scan-meta .ensures)
+    ∙ mount-is _ _ _ _ _ (at-scan-meta .scan-meta .ensures))
 
 returns-2 : tie.Need-returns-2
 returns-2 c =
     let at-sizes-fit = c .before in
-    with-refused _ _ _ _ _ (sym (at-sizes-fit .sizes-fit .ensures) ∙ c .if1 .left) ∙ mount-is _ _ _ _ _ refl
+    ap (inNumbers numbers) (with-refused _ _ _ _ _ (sym (at-sizes-fit .sizes-fit .ensures) ∙ c .if1 .left) ∙ mount-is _ _ _ _ _ refl)
 
 pub mount-spec : {M : Type 1} → statement M
 mount-spec = tie.close (tie.spec (λ c κs. search needs) (λ c κs. search needs) mount-best-requires (λ c. search needs) returns returns-2)

@@ -2,7 +2,8 @@
 -- Assumes nothing.
 use mathlib.Core.Path.{sym, _∙_, refl, ap}
 use denote.Ref.{now}
-use Rattle.state.specs.World.{before, ended}
+use Rattle.state.specs.Refusals.{numbers}
+use Rattle.state.specs.World.{before, ended, inNumbers}
 use native.Mathlib.Omega.{arith}
 use mathlib.Core.List.{[]}
 use Rattle.state.proofs.Laws.{checks-pass}
@@ -18,7 +19,8 @@ returns c =
     let c8 = c4 .before .before .before .before in
     let a = c8 .args in
     let w = before (now (a .image)) (now (a .map)) (a .table) (a .state) in
-    refused-is commit w _ _ (c .refuse .ensures) (commit-refused w _ (sym (c4 .check .ensures) ∙ c .before .before .seen .given .1))
+    ap (inNumbers numbers)
+    (refused-is commit w _ _ (c .refuse .ensures) (commit-refused w _ (sym (c4 .check .ensures) ∙ c .before .before .seen .given .1)))
 
 returns-2 : tie.Need-returns-2
 returns-2 c =
@@ -30,9 +32,10 @@ returns-2 c =
     let c13 = c9 .before .before .before .before in
     let a = c13 .args in
     let w = before (now (a .image)) (now (a .map)) (a .table) (a .state) in
-    committed-is w commit [] _ _ _
+    ap (inNumbers numbers)
+    (committed-is w commit [] _ _ _
     (commit-none w (sym (c9 .check .ensures) ∙ c7 .enum-told .given .1) (sym (c6 .count-dirty .ensures) ∙ c5 .if1 .taken)) refl
-    (c3 .release .ensures) (c .close-transaction .ensures)
+    (c3 .release .ensures) (c .close-transaction .ensures))
 
 commit-batch-requires : tie.Need-commit-batch-requires
 commit-batch-requires c κs =
@@ -51,8 +54,9 @@ returns-3 c =
     let c15 = c11 .before .before .before .before in
     let a = c15 .args in
     let w = before (now (a .image)) (now (a .map)) (a .table) (a .state) in
-    c4 .commit-batch .ensures ∙ sym
-    (ap (ended w) (commit-some w (sym (c11 .check .ensures) ∙ c9 .enum-told .given .1) (λ e. c7 .if1 .left (c8 .count-dirty .ensures ∙ e))))
+    ap (inNumbers numbers)
+    (c4 .commit-batch .ensures ∙ sym
+    (ap (ended w) (commit-some w (sym (c11 .check .ensures) ∙ c9 .enum-told .given .1) (λ e. c7 .if1 .left (c8 .count-dirty .ensures ∙ e)))))
 
 pub commit-spec : {M : Type 1} → statement M
 commit-spec =

@@ -4,7 +4,7 @@ use mathlib.Core.Path.{sym, _∙_}
 use denote.Ref.{now}
 use Rattle.state.specs.World.{before}
 use native.Mathlib.Omega.{arith}
-use Rattle.map.proofs.Laws.{alloc-found, beyond-inside}
+use Rattle.map.proofs.Laws.{alloc-same, alloc-found, beyond-inside}
 use Rattle.transact.specs.Commit.{moved}
 use Rattle.transact.proofs.Exits.{refused-is, moved-end, moved-full, moved-done}
 use borrow.Author.Needs.{needs}
@@ -26,7 +26,7 @@ returns-2 c =
     let a = c11 .args in
     let w = before (now (a .image)) (now (a .map)) (a .table) (a .state) in
     refused-is moved w _ _ (c .refuse2 .ensures)
-    (moved-full w (c7 .if1 .left) (sym (c3 .find-free .ensures) ∙ c .before .enum-told .given .1))
+    (moved-full w (c7 .if1 .left) (sym (alloc-same _ _ (c3 .find-free .ensures)) ∙ c .before .enum-told .given .1))
 
 cast-move-state : tie.Need-cast-move-state
 cast-move-state c =
@@ -36,7 +36,7 @@ cast-move-state c =
     let c23 = c18 .before .before .before .before .before in
     let a = c23 .args in
     let k =
-    (alloc-found (now (a .map)) (a .state .«page_count») (a .state .cursor) (c23 .pre) _ (sym (c15 .find-free .ensures) ∙ c13 .found .given .1)) .inside
+    (alloc-found (now (a .map)) (a .state .«page_count») (a .state .cursor) (c23 .pre) _ (sym (alloc-same _ _ (c15 .find-free .ensures)) ∙ c13 .found .given .1)) .inside
     in
     omega (arith, k, c18 .struct-known2 .given)
 
@@ -47,7 +47,7 @@ cast-move-state-2 c =
     let c23 = c15 .before .before .before .before .before .before .before .before in
     let a = c23 .args in
     let k =
-    (alloc-found (now (a .map)) (a .state .«page_count») (a .state .cursor) (c23 .pre) _ (sym (c15 .find-free .ensures) ∙ c13 .found .given .1)) .inside
+    (alloc-found (now (a .map)) (a .state .«page_count») (a .state .cursor) (c23 .pre) _ (sym (alloc-same _ _ (c15 .find-free .ensures)) ∙ c13 .found .given .1)) .inside
     in
     omega (arith, c .beyond-page .ensures, beyond-inside (a .state .«page_count») (c13 .found .given .0 .0) (omega (arith, k)))
 
@@ -61,7 +61,7 @@ returns-3 c =
     let c24 = c20 .before .before .before .before in
     let a = c24 .args in
     let w = before (now (a .image)) (now (a .map)) (a .table) (a .state) in
-    moved-done w _ _ _ _ (c20 .if1 .left) (sym (c16 .find-free .ensures) ∙ c14 .found .given .1) (c9 .store-live .ensures)
+    moved-done w _ _ _ _ (c20 .if1 .left) (sym (alloc-same _ _ (c16 .find-free .ensures)) ∙ c14 .found .given .1) (c9 .store-live .ensures)
     (c4 .move-map .ensures) (c .move-state .ensures ∙ rw (c .before .beyond-page .ensures))
 
 pub commit-moved-spec : {M : Type 1} → statement M

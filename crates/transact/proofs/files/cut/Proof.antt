@@ -1,15 +1,14 @@
 -- `transact::files::cut` meets its contract: the test says which record it is.
 -- Assumes nothing.
 use borrow.Author.Tests.{eq-eqb, ne-eqb}
-use Rattle.state.specs.Values.{emptyRecord}
-use Rattle.transact.specs.Truncate.{advanced, emptied, cut}
+use Rattle.transact.specs.Truncate.{advanced, cut}
 use borrow.Author.Needs.{needs}
 use Rattle.transact.proofs.files.cut.Statement.{statement}
 use Rattle.transact.proofs.files.cut.Tie as tie
 
 returns : tie.Need-returns
-unfolding cut emptied emptyRecord
-returns c = rw (eq-eqb _ _ (c .before .if1 .taken), c .empty-record .ensures)
+unfolding cut
+returns c = rw (eq-eqb _ _ (c .before .if1 .taken), c .emptied .ensures)
 
 returns-2 : tie.Need-returns-2
 unfolding cut advanced

@@ -1,6 +1,6 @@
 -- `transact::flags::change_flags` meets its contract: a walk of its MIR, by hand. `flags::flags_answer` gives the answer; the borrow is opened, `flags::flags_table` is called on a copy of what lies behind it, and the borrow is closed at the result.
 -- Assumes nothing.
-use mathlib.Core.Path.{_≡_, refl}
+use mathlib.Core.Path.{_≡_, refl, ap}
 use Prim.Native.Nat.{ℕ, _<_, _^_}
 use mathlib.Core.List.{[], _∷_, List}
 use lib.ListN.{length}
@@ -39,7 +39,8 @@ use denote.Triple.Table.{entered, cited}
 use denote.Triple.Walked.{says, Stays, stay-ref, stay-none, stay-none-slice, walkOf, AllGo, goes-none, goes-none-slice, goes-ref, Walks, ends-at, walked, walk-meets}
 use denote.Triple.Clauses.{ensured, lasts}
 use denote.Exit.{yes}
-use Rattle.state.specs.World.{before}
+use Rattle.state.specs.Refusals.{numbers}
+use Rattle.state.specs.World.{before, inNumbers}
 use Rattle.transact.specs.Flags.{flagsAnswer, flagsTable}
 use Rattle.transact.proofs.Exits.{flags-is}
 use Rattle.state.specs.declared.types.Table.{Table}
@@ -123,7 +124,7 @@ module _ {M : Type 1} (𝓤 : URA M) (H : Heap 𝓤) (A : Atoms 𝓤) (W : Given
   exits : (a : Flagged) (u : Val) (r : Table) → a ≡ told (now image) (now map) h state file flags → r ≡ made (now image) (now map) h state file flags → ent 𝓤 (⋆ 𝓤 H A (‵ (fobs γ (T.the-row .coded .code r)) ∷ ‵ (fbor κ2 (Body (mem T.the-row) b o γ)) ∷ ‵ (flft κ2 q2) ∷ (‵ (flft κ0 q0) ⊛ ‵ (flft κ1 q1) ⊛ ‵ ftrue) ∷ ‵ Own0 ∷ ‵ Own1 ∷ ‵ (R.the-row .own a (u ∷ [])) ∷ [])) (Post u)
   exits a u r e e′ =
       qed W (‵ (fobs γ (T.the-row .coded .code r)) ∷ ‵ (fbor κ2 (Body (mem T.the-row) b o γ)) ∷ ‵ (flft κ2 q2) ∷ (‵ (flft κ0 q0) ⊛ ‵ (flft κ1 q1) ⊛ ‵ ftrue) ∷ ‵ Own0 ∷ ‵ Own1 ∷ ‵ (R.the-row .own a (u ∷ [])) ∷ []) ∵
-      suffices ! _ (ends-at 𝓤 H A f.ended stayed (f.clauses 𝓤 H A at-mem run) W (((κ0, (κ1, (κ2, tt))), (q0, (q1, (q2, tt))), tt, (image, (map, (record { ptr = (b, o); name = γ; now = h }, (state, (file, (flags, tt)))))), (v0 ∷ [], (v1 ∷ [], (vptr b o ∷ [], (LL.val P0.the-type P0′.the-laws state ∷ [], (vint w8 file ∷ [], (vint w8 flags ∷ [], tt))))))), tt) u a (tt, (tt, (r, (tt, (tt, (tt, tt)))))) (tt, (tt, (tt, (tt, (tt, (tt, tt))))))) $ says ! (flags-is (before (now image) (now map) h state) file flags a r e e′) $
+      suffices ! _ (ends-at 𝓤 H A f.ended stayed (f.clauses 𝓤 H A at-mem run) W (((κ0, (κ1, (κ2, tt))), (q0, (q1, (q2, tt))), tt, (image, (map, (record { ptr = (b, o); name = γ; now = h }, (state, (file, (flags, tt)))))), (v0 ∷ [], (v1 ∷ [], (vptr b o ∷ [], (LL.val P0.the-type P0′.the-laws state ∷ [], (vint w8 file ∷ [], (vint w8 flags ∷ [], tt))))))), tt) u a (tt, (tt, (r, (tt, (tt, (tt, tt)))))) (tt, (tt, (tt, (tt, (tt, (tt, tt))))))) $ says ! (ap (inNumbers numbers) (flags-is (before (now image) (now map) h state) file flags a r e e′)) $
       move ! (3 ∷ []) $ split ! $ move ! (1 ∷ []) $ split ! $ move ! (5 ∷ 1 ∷ []) $ join ! $ move ! (1 ∷ 0 ∷ []) $ join ! $ move ! (1 ∷ 0 ∷ []) $ join ! $ frame ! $ move ! (0 ∷ 1 ∷ []) $ feqI ! (List Val) (vptr b o ∷ []) (vptr b o ∷ []) refl $ fjoin3 ! $ nothing ! $ owned ! u8 (Is u8) (uint-makes 𝓤 H A W w8) flags _ (refl, flags-fits) $ fjoin ! $ owned ! u8 (Is u8) (uint-makes 𝓤 H A W w8) file _ (refl, file-fits) $ fjoin ! $ owned ! P0.the-row (Is P0.the-row) (LL.makes P0.the-type P0′.the-plain 𝓤 H A) state _ state-is $ fjoin ! $ move ! (1 ∷ 0 ∷ []) $ fjoin ! $ move ! (2 ∷ 0 ∷ []) $ fjoin ! $ move ! (1 ∷ 0 ∷ []) $ fjoin ! $ move ! (0 ∷ 1 ∷ []) $ done !
 
   module _ (C : Calls 𝓤 H) (Λ : Loops 𝓤 H) (fm : FmC 𝓤 H (W .laws) C) (known-g : Triple 𝓤 (C #transact·flags·flags-answer) (G 𝓤 H A at-mem run)) (known-k : Triple 𝓤 (C #transact·flags·flags-table) (K 𝓤 H A at-mem run)) where

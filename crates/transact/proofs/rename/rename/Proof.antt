@@ -1,8 +1,9 @@
 -- `transact::rename::rename` meets its contract: one law for each exit.
 -- Assumes nothing.
-use mathlib.Core.Path.{sym, _∙_}
+use mathlib.Core.Path.{sym, ap, _∙_}
 use denote.Ref.{now}
-use Rattle.state.specs.World.{World, before}
+use Rattle.state.specs.Refusals.{numbers}
+use Rattle.state.specs.World.{World, before, inNumbers}
 use native.Mathlib.Omega.{arith}
 use Rattle.state.proofs.Laws.{checks-pass}
 use Rattle.transact.specs.Rename.{rename}
@@ -17,8 +18,9 @@ returns c =
     let c8 = c4 .before .before .before .before in
     let a = c8 .args in
     let w = before (now (a .image)) (now (a .map)) (a .table) (a .state) in
-    refused-is (λ (x : World). rename x (a .from) (a .to)) w _ _ (c .refuse .ensures)
-    (rename-refused w (a .from) (a .to) _ (sym (c4 .check .ensures) ∙ c .before .before .seen .given .1))
+    ap (inNumbers numbers)
+    (refused-is (λ (x : World). rename x (a .from) (a .to)) w _ _ (c .refuse .ensures)
+    (rename-refused w (a .from) (a .to) _ (sym (c4 .check .ensures) ∙ c .before .before .seen .given .1)))
 
 returns-2 : tie.Need-returns-2
 returns-2 c =
@@ -26,8 +28,9 @@ returns-2 c =
     let c8 = c4 .before .before .before .before in
     let a = c8 .args in
     let w = before (now (a .image)) (now (a .map)) (a .table) (a .state) in
-    refused-is (λ (x : World). rename x (a .from) (a .to)) w _ _ (c .refuse2 .ensures)
-    (rename-bad w (a .from) (a .to) (sym (c4 .check .ensures) ∙ c .before .before .enum-told .given .1) (c .before .if1 .taken))
+    ap (inNumbers numbers)
+    (refused-is (λ (x : World). rename x (a .from) (a .to)) w _ _ (c .refuse2 .ensures)
+    (rename-bad w (a .from) (a .to) (sym (c4 .check .ensures) ∙ c .before .before .enum-told .given .1) (c .before .if1 .taken)))
 
 swap-requires : tie.Need-swap-requires
 swap-requires c κs =
@@ -42,8 +45,9 @@ returns-3 c =
     let c9 = c5 .before .before .before .before in
     let a = c9 .args in
     let w = before (now (a .image)) (now (a .map)) (a .table) (a .state) in
-    rename-done w (a .from) (a .to) _ _ (sym (c5 .check .ensures) ∙ c3 .enum-told .given .1) (c .before .before .if1 .left)
-    (c .before .swap .ensures) (c .open-transaction .ensures)
+    ap (inNumbers numbers)
+    (rename-done w (a .from) (a .to) _ _ (sym (c5 .check .ensures) ∙ c3 .enum-told .given .1) (c .before .before .if1 .left)
+    (c .before .swap .ensures) (c .open-transaction .ensures))
 
 pub rename-spec : {M : Type 1} → statement M
 rename-spec =

@@ -2,7 +2,8 @@
 -- Assumes nothing.
 use mathlib.Core.Path.{sym, _∙_, refl, ap}
 use denote.Ref.{now}
-use Rattle.state.specs.World.{World, before, ended}
+use Rattle.state.specs.Refusals.{numbers}
+use Rattle.state.specs.World.{World, before, ended, inNumbers}
 use Prim.Native.Nat.{ℕ}
 use native.Mathlib.Omega.{arith}
 use borrow.Author.Tests.{not-true, not-false}
@@ -20,8 +21,9 @@ returns c =
     let c8 = c4 .before .before .before .before in
     let a = c8 .args in
     let w = before (now (a .image)) (now (a .map)) (a .t3) (a .state) in
-    refused-is (λ (x : World). truncate x (a .file) (a .bytes)) w _ _ (c .refuse .ensures)
-    (truncate-refused w (a .file) (a .bytes) _ (sym (c4 .check .ensures) ∙ c .before .before .seen .given .1))
+    ap (inNumbers numbers)
+    (refused-is (λ (x : World). truncate x (a .file) (a .bytes)) w _ _ (c .refuse .ensures)
+    (truncate-refused w (a .file) (a .bytes) _ (sym (c4 .check .ensures) ∙ c .before .before .seen .given .1)))
 
 returns-2 : tie.Need-returns-2
 returns-2 c =
@@ -29,7 +31,8 @@ returns-2 c =
     let c7 = c3 .before .before .before .before in
     let a = c7 .args in
     let w = before (now (a .image)) (now (a .map)) (a .t3) (a .state) in
-    sym (ap (ended w) (truncate-none w (a .file) (a .bytes) (sym (c3 .check .ensures) ∙ c .before .enum-told .given .1) (c .if1 .taken)))
+    ap (inNumbers numbers)
+    (sym (ap (ended w) (truncate-none w (a .file) (a .bytes) (sym (c3 .check .ensures) ∙ c .before .enum-told .given .1) (c .if1 .taken))))
 
 element-copy-out-f : tie.Need-element-copy-out-f
 element-copy-out-f c =
@@ -52,8 +55,9 @@ returns-3 c =
     let c12 = c8 .before .before .before .before in
     let a = c12 .args in
     let w = before (now (a .image)) (now (a .map)) (a .t3) (a .state) in
-    changed-is (λ (x : World). truncate x (a .file) (a .bytes)) w _ _ _ _ _ _ (c .change .ensures) (c .before .dirty .ensures) refl
-    (truncate-empty w (a .file) (a .bytes) (sym (c8 .check .ensures) ∙ c6 .enum-told .given .1) (c5 .if1 .left) (c .before .before .if2 .taken))
+    ap (inNumbers numbers)
+    (changed-is (λ (x : World). truncate x (a .file) (a .bytes)) w _ _ _ _ _ _ (c .change .ensures) (c .before .emptied .ensures) refl
+    (truncate-empty w (a .file) (a .bytes) (sym (c8 .check .ensures) ∙ c6 .enum-told .given .1) (c5 .if1 .left) (c .before .before .if2 .taken)))
 
 edge-of-requires : tie.Need-edge-of-requires
 edge-of-requires c κs = omega (arith, c .new-first .ensures)
@@ -65,9 +69,10 @@ returns-4 c =
     let k = n .before .before .before in
     let a = k .before .before .before .before .args in
     let w = before (now (a .image)) (now (a .map)) (a .t3) (a .state) in
-    refused-is (λ (x : World). truncate x (a .file) (a .bytes)) w _ _ (c .refuse2 .ensures)
+    ap (inNumbers numbers)
+    (refused-is (λ (x : World). truncate x (a .file) (a .bytes)) w _ _ (c .refuse2 .ensures)
     (truncate-damaged w (a .file) (a .bytes) (sym (k .check .ensures) ∙ n .before .enum-told .given .1) (n .if1 .left) (e .before .before .before .if2 .left)
-    (sym (e .edge-of .ensures .0) ∙ not-true _ (c .before .if3 .taken)))
+    (sym (e .edge-of .ensures .0) ∙ not-true _ (c .before .if3 .taken))))
 
 -- the walk ends at a page, and which
 hold-unreached-requires : tie.Need-hold-unreached-requires
@@ -91,11 +96,12 @@ returns-5 c =
     let k = n .before .before .before in
     let a = k .before .before .before .before .args in
     let w = before (now (a .image)) (now (a .map)) (a .t3) (a .state) in
-    changed-is (λ (x : World). truncate x (a .file) (a .bytes)) w _ _ _ _ _ _ (c .change2 .ensures)
+    ap (inNumbers numbers)
+    (changed-is (λ (x : World). truncate x (a .file) (a .bytes)) w _ _ _ _ _ _ (c .change2 .ensures)
     (c .before .cut .ensures ∙ ap (cut (fileAt (a .t3) (a .file))) (f .new-first .ensures))
     (h .hold-unreached .ensures ∙ ap (λ (n : ℕ). heldAll (now (a .map)) (unreached (now (a .image)) (a .state .«page_count») (fileAt (a .t3) (a .file)) n)) (f .new-first .ensures))
     (truncate-held w (a .file) (a .bytes) (sym (k .check .ensures) ∙ n .before .enum-told .given .1) (n .if1 .left) (e .before .before .before .if2 .left)
-    (sym (e .edge-of .ensures .0) ∙ not-false _ (h .before .before .before .if3 .left)))
+    (sym (e .edge-of .ensures .0) ∙ not-false _ (h .before .before .before .if3 .left))))
 
 pub truncate-spec : {M : Type 1} → statement M
 truncate-spec =

@@ -2,6 +2,7 @@
 -- Assumes nothing.
 use mathlib.Core.Path.{sym, ap}
 use native.Mathlib.Omega.{arith}
+use Rattle.map.specs.declared.Alloc.the-variants.{Full}
 use Rattle.state.specs.World.{before, ended}
 use Rattle.state.specs.Values.{withCursor, withWriter}
 use Rattle.writer.proofs.Pages.{alloc-told, alloc-small, beyond-small}
@@ -39,7 +40,7 @@ returns-2 : tie.Need-returns-2
 returns-2 c =
     let a = c .before .before .before .before .before .before .before .before .before .before .before .args in
     let w = before (a .image .now) (a .map .now) (a .table) (a .state) in
-    let t = alloc-told (a .map .now) _ (a .state .«page_count») (a .state .cursor) _ (rw (c .before .enum-told .given .1) at (c .before .before .before .before .before .allocate .ensures)) in
+    let t = alloc-told (a .map .now) _ (a .state .«page_count») (a .state .cursor) Full (rw (c .before .enum-told .given .1) at (c .before .before .before .before .before .allocate .ensures)) in
     rw (t .1, c .refuse .ensures) (sym (ap (ended w) (copied-none w (a .file) (a .f) (a .q) (t .0))))
 
 pub copied-to-spec : {M : Type 1} → statement M

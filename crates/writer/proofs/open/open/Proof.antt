@@ -2,7 +2,8 @@
 -- Assumes nothing.
 use mathlib.Core.Path.{sym, ap, _∙_}
 use native.Mathlib.Omega.{arith}
-use Rattle.state.specs.World.{before, ended}
+use Rattle.state.specs.Refusals.{numbers}
+use Rattle.state.specs.World.{before, ended, inNumbers}
 use Rattle.state.proofs.Laws.{checks-pass}
 use Rattle.writer.specs.Open.{openWriter}
 use Rattle.writer.proofs.Exits.{checked-refused, checked-passed}
@@ -13,7 +14,7 @@ use Rattle.writer.proofs.open.open.Tie as tie
 
 returns : tie.Need-returns
 unfolding openWriter
-returns c = checked-refused _ _ _ _ _ (c .before .before .check .ensures) _ (c .enum-told2 .given .1)
+returns c = ap (inNumbers numbers) (checked-refused _ _ _ _ _ (c .before .before .check .ensures) _ (c .enum-told2 .given .1))
 
 element-copy-out-f : tie.Need-element-copy-out-f
 element-copy-out-f c = let g = checks-pass _ _ _ _ _ (sym (c .before .before .check .ensures) ∙ c .enum-told .given .1) in omega (arith, g .known)
@@ -26,7 +27,8 @@ unfolding openWriter
 returns-2 c =
     let a = c .before .before .before .before .before .before .before .before .before .before .before .args in
     let w = before (a .image .now) (a .map .now) (a .t3) (a .state) in
-    c .before .before .open-in .ensures ∙ sym (ap (ended w) (checked-passed w _ (a .file) _ _ (c .before .before .before .before .before .before .before .check .ensures) (c .before .before .before .before .before .enum-told .given .1)))
+    ap (inNumbers numbers)
+    (c .before .before .open-in .ensures ∙ sym (ap (ended w) (checked-passed w _ (a .file) _ _ (c .before .before .before .before .before .before .before .check .ensures) (c .before .before .before .before .before .enum-told .given .1))))
 
 pub open-spec : {M : Type 1} → statement M
 open-spec = tie.close (tie.spec (λ c κs. search needs) (λ c. search needs) (λ c. search needs) returns (λ c. search needs) element-copy-out-f open-in-requires (λ c. search needs) returns-2)
