@@ -7,15 +7,22 @@ use script::command::Command;
 use script::command::Setup;
 use script::say;
 use script::show;
-ghost use Prim.Native.Nat.{_≤_};
+ghost use mathlib.Core.Path.{_≡_};
+ghost use Prim.Native.Nat.{min};
+ghost use Rattle.script.specs.Text.{spot};
+ghost use Rattle.answers.specs.World.{turned, left, scene};
+ghost use Rattle.answers.specs.Calls.{sight};
+ghost use Rattle.answers.specs.Answer.{pokedBy, onSetup, onLent, onCommand, answered};
 
 fn least(a: usize, b: usize) -> usize
-    ensures { λ r. ⌜ r ≤ b ⌝ }
+    ensures { λ r. ⌜ r ≡ min a b ⌝ }
 {
     if a < b { a } else { b }
 }
 
-fn poke(target: &mut [u8], offset: usize, run: &[u8], out: &mut [u8], at: usize) -> usize {
+fn poke(target: &mut [u8], offset: usize, run: &[u8], out: &mut [u8], at: usize) -> usize
+    ensures { λ r. ⌜ sight (now (target .exit)) (spot (now (out .exit)) r) ≡ pokedBy (now (target .entry)) offset (now (run .entry)) (spot (now (out .entry)) at) ⌝ }
+{
     if target.len() < offset {
         return say::bad(out, at);
     }
@@ -35,7 +42,9 @@ fn on_setup(
     at: usize,
     world: World,
     what: Setup,
-) -> Turn {
+) -> Turn
+    ensures { λ r. ⌜ left (now (image .exit)) (now (map .exit)) (turned (now (out .exit)) r) ≡ onSetup what (now (image .entry)) (now (map .entry)) (now (bytes .entry)) world (spot (now (out .entry)) at) ⌝ }
+{
     match what {
         Setup::Lend(i, m) => {
             let mut next = world;
@@ -81,7 +90,10 @@ fn on_lent(
     at: usize,
     world: World,
     command: Command,
-) -> Turn {
+) -> Turn
+    ensures { λ r. ⌜ scene (now (bytes .exit)) (left (now (image .exit)) (now (map .exit)) (turned (now (out .exit)) r))
+        ≡ onLent command (now (image .entry)) (now (map .entry)) (now (bytes .entry)) world (spot (now (out .entry)) at) ⌝ }
+{
     match command {
         Command::Volume(what) => call::on_volume(image, map, out, at, world, what),
         Command::Reading(what) => Turn {
@@ -120,7 +132,10 @@ fn on_command(
     at: usize,
     world: World,
     command: Command,
-) -> Turn {
+) -> Turn
+    ensures { λ r. ⌜ scene (now (bytes .exit)) (left (now (image .exit)) (now (map .exit)) (turned (now (out .exit)) r))
+        ≡ onCommand command (now (image .entry)) (now (map .entry)) (now (bytes .entry)) world (spot (now (out .entry)) at) ⌝ }
+{
     if let Command::Setup(what) = command {
         return on_setup(image, map, bytes, out, at, world, what);
     }
@@ -145,7 +160,10 @@ pub fn answer(
     out: &mut [u8],
     at: usize,
     world: World,
-) -> Turn {
+) -> Turn
+    ensures { λ r. ⌜ scene (now (bytes .exit)) (left (now (image .exit)) (now (map .exit)) (turned (now (out .exit)) r))
+        ≡ answered (now (line .entry)) (now (image .entry)) (now (map .entry)) (now (bytes .entry)) world (spot (now (out .entry)) at) ⌝ }
+{
     let command = script::command::command_of(line, bytes);
     on_command(image, map, bytes, out, at, world, command)
 }

@@ -16,9 +16,19 @@ use state::types::Done;
 use state::types::Out;
 use state::types::State;
 use state::types::Table;
+ghost use mathlib.Core.Path.{_≡_};
+ghost use Rattle.seq.specs.Seq.{reply};
+ghost use Rattle.state.specs.World.{before};
+ghost use Rattle.state.specs.Values.{withSearch};
+ghost use Rattle.script.specs.Text.{spot, puts};
+ghost use Rattle.script.specs.Say.{done};
+ghost use Rattle.answers.specs.World.{turned, left};
+ghost use Rattle.answers.specs.Calls.{toldBy, onVolume, located, skipped, sight, readOf, onReading, sought, onSearching, onWriting, onFiles, replied, onHelper};
 
 // What a call hands back is the world from then on.
-fn told(out: &mut [u8], at: usize, world: World, r: Out) -> Turn {
+fn told(out: &mut [u8], at: usize, world: World, r: Out) -> Turn
+    ensures { λ t. ⌜ turned (now (out .exit)) t ≡ toldBy world (spot (now (out .entry)) at) (done (r .answer)) (r .table) (r .state) ⌝ }
+{
     let answer = r.answer;
     let table = r.table;
     let state = r.state;
@@ -39,7 +49,9 @@ pub fn on_volume(
     at: usize,
     world: World,
     what: Volume,
-) -> Turn {
+) -> Turn
+    ensures { λ r. ⌜ left (now (image .exit)) (now (map .exit)) (turned (now (out .exit)) r) ≡ onVolume what (now (image .entry)) (now (map .entry)) world (spot (now (out .entry)) at) ⌝ }
+{
     let table = world.table;
     let state = world.state;
     match what {
@@ -54,15 +66,19 @@ pub fn on_volume(
     }
 }
 
-fn said_located(out: &mut [u8], at: usize, found: Located) -> usize {
+fn said_located(out: &mut [u8], at: usize, found: Located) -> usize
+    ensures { λ r. ⌜ spot (now (out .exit)) r ≡ puts (spot (now (out .entry)) at) (located found) ⌝ }
+{
     match found {
         Located::At(page, count) => { say::two(out, at, b"at % %\n", page as u64, count) }
         Located::Refused(why) => say::refused(out, at, why),
     }
 }
 
-fn said_skipped(out: &mut [u8], at: usize, skipped: Skipped) -> usize {
-    match skipped {
+fn said_skipped(out: &mut [u8], at: usize, answer: Skipped) -> usize
+    ensures { λ r. ⌜ spot (now (out .exit)) r ≡ puts (spot (now (out .entry)) at) (skipped answer) ⌝ }
+{
+    match answer {
         Skipped::To(seq) => say::one(out, at, b"to %\n", seq),
         Skipped::Refused(why) => say::refused(out, at, why),
     }
@@ -79,7 +95,9 @@ fn read(
     state: State,
     from: Reader,
     n: usize,
-) -> usize {
+) -> usize
+    ensures { λ r. ⌜ sight (now (bytes .exit)) (spot (now (out .exit)) r) ≡ readOf (before (now (image .entry)) (now (map .entry)) table state) (from .file) (from .seq) n (now (bytes .entry)) (spot (now (out .entry)) at) ⌝ }
+{
     if bytes.len() < n {
         return say::bad(out, at);
     }
@@ -99,7 +117,9 @@ pub fn on_reading(
     at: usize,
     world: World,
     what: Reading,
-) -> usize {
+) -> usize
+    ensures { λ r. ⌜ sight (now (bytes .exit)) (spot (now (out .exit)) r) ≡ onReading what (now (image .entry)) (now (map .entry)) (now (bytes .entry)) world (spot (now (out .entry)) at) ⌝ }
+{
     let table = world.table;
     let state = world.state;
     match what {
@@ -129,12 +149,33 @@ pub fn on_reading(
     }
 }
 
-fn said_searched(out: &mut [u8], at: usize, answer: search::Answer) -> usize {
+fn said_searched(out: &mut [u8], at: usize, answer: search::Answer) -> usize
+    ensures { λ r. ⌜ spot (now (out .exit)) r ≡ puts (spot (now (out .entry)) at) (sought answer) ⌝ }
+{
     match answer {
         search::Answer::Offer(seq) => say::one(out, at, b"offer %\n", seq),
         search::Answer::End(seq) => say::one(out, at, b"end %\n", seq),
         search::Answer::Refused(why) => say::refused(out, at, why),
     }
+}
+
+// The search is all of the state that its calls change.
+fn searched(out: &mut [u8], at: usize, world: World, r: SearchOut) -> Turn
+    ensures { λ t. ⌜ turned (now (out .exit)) t ≡ toldBy world (spot (now (out .entry)) at) (sought (r .answer)) (world .table) (withSearch (world .state) (r .search)) ⌝ }
+{
+    let answer = r.answer;
+    let search = r.search;
+    let table = world.table;
+    let mut state = world.state;
+    state.search = search;
+    let next = said_searched(out, at, answer);
+    let world = World {
+        table,
+        state,
+        image: world.image,
+        map: world.map,
+    };
+    Turn { world, at: next }
 }
 
 pub fn on_searching(
@@ -144,26 +185,25 @@ pub fn on_searching(
     at: usize,
     world: World,
     what: Searching,
-) -> Turn {
+) -> Turn
+    ensures { λ r. ⌜ left (now (image .entry)) (now (map .entry)) (turned (now (out .exit)) r) ≡ onSearching what (now (image .entry)) (now (map .entry)) world (spot (now (out .entry)) at) ⌝ }
+{
     let table = world.table;
     let state = world.state;
-    let r: SearchOut = match what {
-        Searching::Search(file) => search::search::search(image, map, table, state, file),
-        Searching::Left => search::search::left(image, map, state),
-        Searching::Right => search::search::right(image, map, state),
-    };
-    let answer = r.answer;
-    let search = r.search;
-    let mut after = state;
-    after.search = search;
-    let next = said_searched(out, at, answer);
-    let world = World {
-        table,
-        state: after,
-        image: world.image,
-        map: world.map,
-    };
-    Turn { world, at: next }
+    match what {
+        Searching::Search(file) => {
+            let r = search::search::search(image, map, table, state, file);
+            searched(out, at, world, r)
+        }
+        Searching::Left => {
+            let r = search::search::left(image, map, state);
+            searched(out, at, world, r)
+        }
+        Searching::Right => {
+            let r = search::search::right(image, map, state);
+            searched(out, at, world, r)
+        }
+    }
 }
 
 pub fn on_writing(
@@ -174,7 +214,9 @@ pub fn on_writing(
     at: usize,
     world: World,
     what: Writing,
-) -> Turn {
+) -> Turn
+    ensures { λ r. ⌜ left (now (image .exit)) (now (map .exit)) (turned (now (out .exit)) r) ≡ onWriting what (now (bytes .entry)) (now (image .entry)) (now (map .entry)) world (spot (now (out .entry)) at) ⌝ }
+{
     let table = world.table;
     let state = world.state;
     match what {
@@ -208,7 +250,9 @@ pub fn on_files(
     at: usize,
     world: World,
     what: Files,
-) -> Turn {
+) -> Turn
+    ensures { λ r. ⌜ left (now (image .exit)) (now (map .exit)) (turned (now (out .exit)) r) ≡ onFiles what (now (image .entry)) (now (map .entry)) world (spot (now (out .entry)) at) ⌝ }
+{
     let table = world.table;
     let state = world.state;
     match what {
@@ -231,7 +275,9 @@ pub fn on_files(
     }
 }
 
-fn said_number(out: &mut [u8], at: usize, answer: seq::numbers::Answer) -> usize {
+fn said_number(out: &mut [u8], at: usize, answer: seq::numbers::Answer) -> usize
+    ensures { λ r. ⌜ spot (now (out .exit)) r ≡ puts (spot (now (out .entry)) at) (replied (reply answer)) ⌝ }
+{
     match answer {
         seq::numbers::Answer::Number(n) => say::one(out, at, b"value %\n", n),
         seq::numbers::Answer::Range => say::refused(out, at, state::types::Refusal::Range),
@@ -239,7 +285,9 @@ fn said_number(out: &mut [u8], at: usize, answer: seq::numbers::Answer) -> usize
     }
 }
 
-pub fn on_helper(out: &mut [u8], at: usize, what: Helper) -> usize {
+pub fn on_helper(out: &mut [u8], at: usize, what: Helper) -> usize
+    ensures { λ r. ⌜ spot (now (out .exit)) r ≡ puts (spot (now (out .entry)) at) (onHelper what) ⌝ }
+{
     match what {
         Helper::Zeros(a, b) => {
             said_number(out, at, seq::numbers::max_trailing_zeros_between(a, b))

@@ -1,2 +1,5 @@
 pub mod Text
 pub mod Bytes
+pub mod Say
+pub mod Show
+pub mod Command

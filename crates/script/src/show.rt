@@ -7,8 +7,13 @@ use state::types::Search;
 use state::types::State;
 use state::types::Table;
 use state::types::Writer;
+ghost use mathlib.Core.Path.{_≡_};
+ghost use Rattle.script.specs.Text.{spot, puts};
+ghost use Rattle.script.specs.Show.{writerShown, searchShown, mountedShown, stateShown, linksShown, fileShown, tableShown, pageShown, sumShown, imageShown, shown};
 
-fn show_writer(out: &mut [u8], at: usize, w: Writer) -> usize {
+fn show_writer(out: &mut [u8], at: usize, w: Writer) -> usize
+    ensures { λ r. ⌜ spot (now (out .exit)) r ≡ puts (spot (now (out .entry)) at) (writerShown w) ⌝ }
+{
     if w.active {
         let numbers = [
             w.file as u64,
@@ -26,7 +31,9 @@ fn show_writer(out: &mut [u8], at: usize, w: Writer) -> usize {
     text::put(out, at, b" writer none")
 }
 
-fn show_search(out: &mut [u8], at: usize, q: Search) -> usize {
+fn show_search(out: &mut [u8], at: usize, q: Search) -> usize
+    ensures { λ r. ⌜ spot (now (out .exit)) r ≡ puts (spot (now (out .entry)) at) (searchShown q) ⌝ }
+{
     if q.active {
         let numbers = [
             q.file as u64,
@@ -44,7 +51,9 @@ fn show_search(out: &mut [u8], at: usize, q: Search) -> usize {
     text::put(out, at, b" search none\n")
 }
 
-fn show_mounted(out: &mut [u8], at: usize, s: State) -> usize {
+fn show_mounted(out: &mut [u8], at: usize, s: State) -> usize
+    ensures { λ r. ⌜ spot (now (out .exit)) r ≡ puts (spot (now (out .entry)) at) (mountedShown s) ⌝ }
+{
     let numbers = [
         s.pages as u64,
         s.page_count as u64,
@@ -64,7 +73,9 @@ fn show_mounted(out: &mut [u8], at: usize, s: State) -> usize {
     )
 }
 
-fn show_state(out: &mut [u8], at: usize, s: State) -> usize {
+fn show_state(out: &mut [u8], at: usize, s: State) -> usize
+    ensures { λ r. ⌜ spot (now (out .exit)) r ≡ puts (spot (now (out .entry)) at) (stateShown s) ⌝ }
+{
     if state::checks::is_mounted(s) {
         let w = s.writer;
         let q = s.search;
@@ -75,7 +86,9 @@ fn show_state(out: &mut [u8], at: usize, s: State) -> usize {
     say::one(out, at, b"state unmounted seed %\n", s.seed)
 }
 
-fn show_links(out: &mut [u8], at: usize, links: [u16; 9]) -> usize {
+fn show_links(out: &mut [u8], at: usize, links: [u16; 9]) -> usize
+    ensures { λ r. ⌜ spot (now (out .exit)) r ≡ puts (spot (now (out .entry)) at) (linksShown links) ⌝ }
+{
     let numbers = [
         links[0] as u64,
         links[1] as u64,
@@ -90,7 +103,9 @@ fn show_links(out: &mut [u8], at: usize, links: [u16; 9]) -> usize {
     say::form(out, at, b" links %,%,%,%,%,%,%,%,%\n", numbers)
 }
 
-fn show_file(out: &mut [u8], at: usize, i: usize, f: FileRecord) -> usize {
+fn show_file(out: &mut [u8], at: usize, i: usize, f: FileRecord) -> usize
+    ensures { λ r. ⌜ spot (now (out .exit)) r ≡ puts (spot (now (out .entry)) at) (fileShown i f) ⌝ }
+{
     let h = f.header;
     let links = h.skiplist;
     let numbers = [
@@ -113,7 +128,9 @@ fn show_file(out: &mut [u8], at: usize, i: usize, f: FileRecord) -> usize {
     show_links(out, at, links)
 }
 
-fn show_table(out: &mut [u8], at: usize, table: Table) -> usize {
+fn show_table(out: &mut [u8], at: usize, table: Table) -> usize
+    ensures { λ r. ⌜ spot (now (out .exit)) r ≡ puts (spot (now (out .entry)) at) (tableShown table) ⌝ }
+{
     let mut at = at;
     let mut i = 0;
     while i < 8 {
@@ -124,7 +141,9 @@ fn show_table(out: &mut [u8], at: usize, table: Table) -> usize {
     at
 }
 
-fn show_page(out: &mut [u8], at: usize, image: &[u8], p: usize) -> usize {
+fn show_page(out: &mut [u8], at: usize, image: &[u8], p: usize) -> usize
+    ensures { λ r. ⌜ spot (now (out .exit)) r ≡ puts (spot (now (out .entry)) at) (pageShown (now (image .entry)) p) ⌝ }
+{
     let bytes = page::page_of(image, p);
     if bytes.len() == 0 {
         return say::bad(out, at);
@@ -133,7 +152,9 @@ fn show_page(out: &mut [u8], at: usize, image: &[u8], p: usize) -> usize {
 }
 
 // A page's sum, where it is not all 0xFF.
-fn show_sum(out: &mut [u8], at: usize, image: &[u8], p: usize) -> usize {
+fn show_sum(out: &mut [u8], at: usize, image: &[u8], p: usize) -> usize
+    ensures { λ r. ⌜ spot (now (out .exit)) r ≡ puts (spot (now (out .entry)) at) (sumShown (now (image .entry)) p) ⌝ }
+{
     let bytes = page::page_of(image, p);
     if runs::all_erased(bytes) {
         return at;
@@ -147,7 +168,9 @@ fn show_sum(out: &mut [u8], at: usize, image: &[u8], p: usize) -> usize {
     )
 }
 
-fn show_image(out: &mut [u8], at: usize, image: &[u8]) -> usize {
+fn show_image(out: &mut [u8], at: usize, image: &[u8]) -> usize
+    ensures { λ r. ⌜ spot (now (out .exit)) r ≡ puts (spot (now (out .entry)) at) (imageShown (now (image .entry))) ⌝ }
+{
     let mut at = at;
     let mut p = 0;
     while p < image.len() / 256 {
@@ -165,7 +188,9 @@ pub fn on_show(
     table: Table,
     state: State,
     what: Show,
-) -> usize {
+) -> usize
+    ensures { λ r. ⌜ spot (now (out .exit)) r ≡ puts (spot (now (out .entry)) at) (shown (now (image .entry)) (now (map .entry)) table state what) ⌝ }
+{
     match what {
         Show::State => show_state(out, at, state),
         Show::Table => show_table(out, at, table),

@@ -1,9 +1,8 @@
 // Parts of a text, and pieces put behind each other into a lent buffer.
 ghost use mathlib.Core.Path.{_≡_};
-ghost use Prim.Native.Nat.{_*_, _<_};
-ghost use lib.ListN.{length, drop};
-ghost use Rattle.runs.specs.Runs.{placed};
-ghost use Rattle.script.specs.Text.{until, same, behind, hexDigit, hexDigits};
+ghost use Prim.Native.Nat.{_<_};
+ghost use lib.ListN.{drop};
+ghost use Rattle.script.specs.Text.{until, same, behind, spot, put, hexDigit, hexDigits};
 
 // The bytes of s from an index on, up to the next b or to the end.
 pub fn until(s: &[u8], from: usize, b: u8) -> &[u8]
@@ -55,8 +54,7 @@ fn end_of(room: usize, at: usize, n: usize) -> usize
 // Puts a text into the buffer at an index and answers the index behind it. Where it does not fit, nothing changes and the
 // buffer's end is the answer.
 pub fn put(out: &mut [u8], at: usize, text: &[u8]) -> usize
-    ensures { λ r. ⌜ (r ≡ behind (length (now (out .entry))) at (length (now (text .entry))))
-        × (now (out .exit) ≡ placed (now (out .entry)) at (now (text .entry))) ⌝ }
+    ensures { λ r. ⌜ spot (now (out .exit)) r ≡ put (spot (now (out .entry)) at) (now (text .entry)) ⌝ }
 {
     runs::place(out, at, text);
     end_of(out.len(), at, text.len())
@@ -71,8 +69,7 @@ fn digit(n: u8) -> u8
 
 // The same with bytes, each as two digits in hex.
 pub fn put_hex(out: &mut [u8], at: usize, bytes: &[u8]) -> usize
-    ensures { λ r. ⌜ (r ≡ behind (length (now (out .entry))) at (2 * length (now (bytes .entry))))
-        × (now (out .exit) ≡ placed (now (out .entry)) at (hexDigits (now (bytes .entry)))) ⌝ }
+    ensures { λ r. ⌜ spot (now (out .exit)) r ≡ put (spot (now (out .entry)) at) (hexDigits (now (bytes .entry))) ⌝ }
 {
     let room = out.len();
     if room < at {

@@ -3,7 +3,7 @@
 -- Assumes nothing.
 use Rattle.script.proofs.Laws.{splice-none, hex-length, hex-stored}
 use mathlib.Core.List.{[]}
-use Rattle.script.specs.Text.{behind, hexDigits}
+use Rattle.script.specs.Text.{behind, hexDigits, put}
 use Rattle.runs.specs.Runs.{splice}
 use Rattle.runs.proofs.Laws.{placed-in, placed-out}
 use borrow.Author.Needs.{needs}
@@ -22,20 +22,20 @@ abbrev μ-loop : tie.MeasureT-loop
 μ-loop out₀ at bytes room o₀ i₀ out o i = length bytes - i
 
 returns : tie.Need-returns Inv-loop μ-loop
-unfolding behind
+unfolding behind put
 returns c = let a = c .before .before .before .args in
     let n = length (a .bytes .now) in
     let h : length (a .out .now) < a .at + 2 * n = omega arith in
     let g : length (a .out .now) < a .at + length (hexDigits (a .bytes .now)) = rw (hex-length (a .bytes .now)) h in
-    (rw (lt-leb _ _ h), sym (placed-out (a .out .now) (a .at) (hexDigits (a .bytes .now)) g))
+    rw (placed-out (a .out .now) (a .at) (hexDigits (a .bytes .now)) g, lt-leb _ _ g)
 
 returns-2 : tie.Need-returns-2 Inv-loop μ-loop
-unfolding behind
+unfolding behind put
 returns-2 c = let a = c .before .before .before .before .args in
     let n = length (a .bytes .now) in
     let h : length (a .out .now) < a .at + 2 * n = omega arith in
     let g : length (a .out .now) < a .at + length (hexDigits (a .bytes .now)) = rw (hex-length (a .bytes .now)) h in
-    (rw (lt-leb _ _ h), sym (placed-out (a .out .now) (a .at) (hexDigits (a .bytes .now)) g))
+    rw (placed-out (a .out .now) (a .at) (hexDigits (a .bytes .now)) g, lt-leb _ _ g)
 
 loop-holds : tie.Need-loop-holds Inv-loop μ-loop
 loop-holds c = (omega arith, omega arith, refl, refl)
@@ -81,7 +81,7 @@ same-length : tie.Need-same-length Inv-loop μ-loop
 same-length c = c .before .loop .inv .2
 
 returns-3 : tie.Need-returns-3 Inv-loop μ-loop
-unfolding behind hexDigits
+unfolding behind put hexDigits
 returns-3 c = let a = c .before .before .before .before .before .before .args in
     let l = c .before .loop in
     let n = length (a .bytes .now) in
@@ -89,7 +89,8 @@ returns-3 c = let a = c .before .before .before .before .before .before .args in
     let g : a .at + length (hexDigits (a .bytes .now)) ≤ length (a .out .now) = rw (hex-length (a .bytes .now)) h in
     let e : l .o ≡ a .at + 2 * n = omega arith in
     let f : hexDigits (drop (l .i) (a .bytes .now)) ≡ [] = rw (drop-of-length-le (a .bytes .now) (c .loop-test .left)) in
-    (e ∙ rw (le-leb _ _ h), sym (splice-none (l .out) (l .o)) ∙ rw (← f) (l .inv .3) ∙ sym (placed-in (a .out .now) (a .at) (hexDigits (a .bytes .now)) g))
+    let k : l .out ≡ splice (a .out .now) (a .at) (hexDigits (a .bytes .now)) = sym (splice-none (l .out) (l .o)) ∙ rw (← f) (l .inv .3) in
+    rw (placed-in (a .out .now) (a .at) (hexDigits (a .bytes .now)) g, le-leb _ _ g, hex-length (a .bytes .now), k, e)
 
 pub put-hex-spec : {M : Type 1} → statement M
 put-hex-spec =
