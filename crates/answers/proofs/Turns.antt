@@ -12,10 +12,20 @@ use denote.Enum.Declared.{tagOf}
 use borrow.Rule.Slice.PartMut.{putMid}
 use Rattle.runs.specs.Runs.{part, partOf, splice}
 use Rattle.runs.proofs.Laws.{put-splice, partOf-in, length-splice}
-use Rattle.state.specs.World.{After}
-use Rattle.state.specs.Refusals.{onDone}
+use Rattle.state.specs.declared.types.Done.{Done}
+use Rattle.state.specs.World.{After, inNumbers}
+use Rattle.state.specs.Refusals.{numbers, onDone}
+use Rattle.state.proofs.Numbers.{numbers-same, outcome-same}
+use Rattle.search.specs.declared.Answer.{Answer}
+use Rattle.search.specs.Search.{answerNumbers}
+use Rattle.search.proofs.Numbers.{answer-same}
 use Rattle.reader.specs.declared.ReadOut.{ReadOut}
-use Rattle.reader.specs.Read.{AfterRead, afterRead}
+use Rattle.reader.specs.Read.{AfterRead, afterRead, readTold}
+use Rattle.reader.specs.declared.Located.{Located}
+use Rattle.reader.specs.declared.Skipped.{Skipped}
+use Rattle.reader.specs.Locate.{locatedNumbers}
+use Rattle.reader.specs.Skip.{skippedNumbers}
+use Rattle.reader.proofs.Numbers.{read-same, located-same, skipped-same}
 use Rattle.script.specs.declared.command.Command.{Command}
 use Rattle.script.specs.declared.command.Command.the-variants as C
 use Rattle.script.proofs.command.Command.{the-type}
@@ -23,13 +33,28 @@ use Rattle.script.specs.Text.{ascii, Spot, puts}
 use Rattle.script.specs.Say as say
 use Rattle.answers.specs.declared.world.World.{World}
 use Rattle.answers.specs.World.{Turned, Left, left, scene}
-use Rattle.answers.specs.Calls.{toldBy, told, sight, readBy}
+use Rattle.answers.specs.Calls.{toldBy, told, sight, readBy, located, skipped, sought}
 use Rattle.answers.specs.Answer.{onLent, rejoined, onBuffers, onCommand}
 
--- a call's outcome, by its contract, with its answer
-pub told-left : {A : Type 0} (say : A → List (List ℕ)) (w : World) (p : Spot) (t : Turned) (x a : After A)
-    → t ≡ toldBy w p (say (x .answer)) (x .world .table) (x .world .state) → x ≡ a → left (x .world .image) (x .world .map) t ≡ told say w p a
-told-left say w p t x a e f = rw e (ap (told say w p) f)
+-- a call's outcome with its answer: the promise's equation of numbers is one of answers
+told-left : {A : Type 0} (f : A → List ℕ) → ((a b : A) → f a ≡ f b → a ≡ b) → (say : A → List (List ℕ)) (w : World) (p : Spot) (t : Turned) (x a : After A)
+    → t ≡ toldBy w p (say (x .answer)) (x .world .table) (x .world .state) → inNumbers f x ≡ inNumbers f a → left (x .world .image) (x .world .map) t ≡ told say w p a
+told-left f same say w p t x a e g = rw e (ap (told say w p) (outcome-same f same x a g))
+
+pub done-left : (w : World) (p : Spot) (t : Turned) (x a : After Done) → t ≡ toldBy w p (say.done (x .answer)) (x .world .table) (x .world .state)
+    → inNumbers numbers x ≡ inNumbers numbers a → left (x .world .image) (x .world .map) t ≡ told say.done w p a
+done-left = told-left numbers numbers-same say.done
+
+pub sought-left : (w : World) (p : Spot) (t : Turned) (x a : After Answer) → t ≡ toldBy w p (sought (x .answer)) (x .world .table) (x .world .state)
+    → inNumbers answerNumbers x ≡ inNumbers answerNumbers a → left (x .world .image) (x .world .map) t ≡ told sought w p a
+sought-left = told-left answerNumbers answer-same sought
+
+-- a value's answer, where the call changes nothing
+pub located-left : (p s : Spot) (f g : Located) → s ≡ puts p (located f) → locatedNumbers f ≡ locatedNumbers g → s ≡ puts p (located g)
+located-left p s f g e h = rw (← located-same f g h) e
+
+pub skipped-left : (p s : Spot) (f g : Skipped) → s ≡ puts p (skipped f) → skippedNumbers f ≡ skippedNumbers g → s ≡ puts p (skipped g)
+skipped-left p s f g e h = rw (← skipped-same f g h) e
 
 -- an answer alone
 pub said-left : (i m : List ℕ) (w : World) (s q : Spot) → s ≡ q → _≡_ {A = Left} (left i m (record { out = s; world = w })) (left i m (record { out = q; world = w }))
@@ -82,8 +107,8 @@ module _ (b o : List ℕ) (n : ℕ) (fits : n ≤ length b) (k : length o ≡ n)
 
 -- the bytes that a read leaves, with its answer
 pub read-left : (b o : List ℕ) (n : ℕ) → n ≤ length b → length o ≡ n → (p q : Spot) (r : ReadOut) (a : AfterRead)
-    → afterRead r o ≡ a → q ≡ puts p (onDone (r .answer) say.refused (say.hex (ascii "bytes") o)) → sight (putMid 0 (n - 0) b o) q ≡ readBy b p a
-read-left b o n fits k p q r a e f = rw (back-splice b o n fits k, f) (ap (readBy b p) e)
+    → readTold (afterRead r o) ≡ readTold a → q ≡ puts p (onDone (r .answer) say.refused (say.hex (ascii "bytes") o)) → sight (putMid 0 (n - 0) b o) q ≡ readBy b p a
+read-left b o n fits k p q r a e f = rw (back-splice b o n fits k, f) (ap (readBy b p) (read-same (afterRead r o) a e))
 
 -- ---- what was lent comes back
 

@@ -70,11 +70,11 @@ onVolume Mount i m w p = doneBy volume-mount.mount i m w p
 
 -- ---- reading
 
-abbrev pub located : Located → List (List ℕ)
+unfoldable pub located : Located → List (List ℕ)
 located (L.At page count) = withTwo (ascii "at % %\n") page count
 located (L.Refused why) = say.refused why
 
-abbrev pub skipped : Skipped → List (List ℕ)
+unfoldable pub skipped : Skipped → List (List ℕ)
 skipped (S.To seq) = withOne (ascii "to %\n") seq
 skipped (S.Refused why) = say.refused why
 
@@ -102,7 +102,7 @@ onReading (Skip file seq n) i m b w p = sight b (puts p (skipped (reader-skip.sk
 
 -- ---- search
 
-abbrev pub sought : Answer → List (List ℕ)
+unfoldable pub sought : Answer → List (List ℕ)
 sought (A.Offer seq) = withOne (ascii "offer %\n") seq
 sought (A.End seq) = withOne (ascii "end %\n") seq
 sought (A.Refused why) = say.refused why

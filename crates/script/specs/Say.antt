@@ -43,7 +43,7 @@ bad = ascii "bad\n" ∷ []
 abbrev pub refused : Refusal → List (List ℕ)
 refused why = withOne (ascii "refused %\n") (number why)
 
-abbrev pub done : Done → List (List ℕ)
+unfoldable pub done : Done → List (List ℕ)
 done answer = onDone answer refused ok
 
 -- a word with bytes in hex behind it, or the word alone

@@ -1,8 +1,7 @@
 -- `answers::call::on_files` meets its contract.
 -- Assumes nothing.
 use Rattle.answers.specs.Calls.{onFiles}
-use Rattle.answers.proofs.Turns.{told-left}
-use Rattle.script.specs.Say as say
+use Rattle.answers.proofs.Turns.{done-left}
 use Rattle.script.specs.Text.{spot}
 use borrow.Author.Needs.{needs}
 use Rattle.answers.proofs.call.on_files.Statement.{statement}
@@ -55,7 +54,7 @@ same-length-3 c = search needs
 
 returns : tie.Need-returns
 unfolding onFiles
-returns c = rw (c .before .before .before .before .before .before .before .before .before .before .what .given .1) (told-left say.done (c .before .before .before .before .before .before .before .before .before .before .before .before .before .before .before .before .before .args .world) (spot (c .before .before .before .before .before .before .before .before .before .before .before .before .before .before .before .before .before .args .out .now) (c .before .before .before .before .before .before .before .before .before .before .before .before .before .before .before .before .before .args .at)) _ _ _ (c .before .before .told .ensures) (c .before .before .before .before .before .before .truncate .ensures))
+returns c = rw (c .before .before .before .before .before .before .before .before .before .before .what .given .1) (done-left (c .before .before .before .before .before .before .before .before .before .before .before .before .before .before .before .before .before .args .world) (spot (c .before .before .before .before .before .before .before .before .before .before .before .before .before .before .before .before .before .args .out .now) (c .before .before .before .before .before .before .before .before .before .before .before .before .before .before .before .before .before .args .at)) _ _ _ (c .before .before .told .ensures) (c .before .before .before .before .before .before .truncate .ensures))
 
 same-length-4 : tie.Need-same-length-4
 same-length-4 c = search needs
@@ -68,7 +67,7 @@ same-length-6 c = search needs
 
 returns-2 : tie.Need-returns-2
 unfolding onFiles
-returns-2 c = rw (c .before .before .before .before .before .before .before .before .what2 .given .1) (told-left say.done (c .before .before .before .before .before .before .before .before .before .before .before .before .before .before .before .args .world) (spot (c .before .before .before .before .before .before .before .before .before .before .before .before .before .before .before .args .out .now) (c .before .before .before .before .before .before .before .before .before .before .before .before .before .before .before .args .at)) _ _ _ (c .before .before .told2 .ensures) (c .before .before .before .before .rename .ensures))
+returns-2 c = rw (c .before .before .before .before .before .before .before .before .what2 .given .1) (done-left (c .before .before .before .before .before .before .before .before .before .before .before .before .before .before .before .args .world) (spot (c .before .before .before .before .before .before .before .before .before .before .before .before .before .before .before .args .out .now) (c .before .before .before .before .before .before .before .before .before .before .before .before .before .before .before .args .at)) _ _ _ (c .before .before .told2 .ensures) (c .before .before .before .before .rename .ensures))
 
 same-length-7 : tie.Need-same-length-7
 same-length-7 c = search needs
@@ -81,7 +80,7 @@ same-length-9 c = search needs
 
 returns-3 : tie.Need-returns-3
 unfolding onFiles
-returns-3 c = rw (c .before .before .before .before .before .before .before .before .what3 .given .1) (told-left say.done (c .before .before .before .before .before .before .before .before .before .before .before .before .before .before .before .args .world) (spot (c .before .before .before .before .before .before .before .before .before .before .before .before .before .before .before .args .out .now) (c .before .before .before .before .before .before .before .before .before .before .before .before .before .before .before .args .at)) _ _ _ (c .before .before .told3 .ensures) (c .before .before .before .before .changed .ensures))
+returns-3 c = rw (c .before .before .before .before .before .before .before .before .what3 .given .1) (done-left (c .before .before .before .before .before .before .before .before .before .before .before .before .before .before .before .args .world) (spot (c .before .before .before .before .before .before .before .before .before .before .before .before .before .before .before .args .out .now) (c .before .before .before .before .before .before .before .before .before .before .before .before .before .before .before .args .at)) _ _ _ (c .before .before .told3 .ensures) (c .before .before .before .before .changed .ensures))
 
 same-length-10 : tie.Need-same-length-10
 same-length-10 c = search needs
@@ -94,7 +93,7 @@ same-length-12 c = search needs
 
 returns-4 : tie.Need-returns-4
 unfolding onFiles
-returns-4 c = rw (c .before .before .before .before .before .before .before .before .before .before .before .enum-told .given .1) (told-left say.done (c .before .before .before .before .before .before .before .before .before .before .before .before .before .before .before .before .before .before .args .world) (spot (c .before .before .before .before .before .before .before .before .before .before .before .before .before .before .before .before .before .before .args .out .now) (c .before .before .before .before .before .before .before .before .before .before .before .before .before .before .before .before .before .before .args .at)) _ _ _ (c .before .before .told4 .ensures) (c .before .before .before .before .before .before .before .before .commit .ensures))
+returns-4 c = rw (c .before .before .before .before .before .before .before .before .before .before .before .enum-told .given .1) (done-left (c .before .before .before .before .before .before .before .before .before .before .before .before .before .before .before .before .before .before .args .world) (spot (c .before .before .before .before .before .before .before .before .before .before .before .before .before .before .before .before .before .before .args .out .now) (c .before .before .before .before .before .before .before .before .before .before .before .before .before .before .before .before .before .before .args .at)) _ _ _ (c .before .before .told4 .ensures) (c .before .before .before .before .before .before .before .before .commit .ensures))
 
 pub on-files-spec : {M : Type 1} → statement M
 on-files-spec =

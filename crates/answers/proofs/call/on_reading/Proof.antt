@@ -1,5 +1,6 @@
 -- `answers::call::on_reading` meets its contract.
 -- Assumes nothing.
+use Rattle.answers.proofs.Turns.{located-left, skipped-left}
 use Rattle.answers.specs.Calls.{sight, onReading}
 use mathlib.Core.Path.{ap}
 use borrow.Author.Needs.{needs}
@@ -35,7 +36,7 @@ same-length c = search needs
 
 returns : tie.Need-returns
 unfolding onReading
-returns c = rw (c .before .before .before .before .before .before .what .given .1, ← c .before .before .before .locate .ensures) (ap (sight _) (c .before .before .said-located .ensures))
+returns c = rw (c .before .before .before .before .before .before .what .given .1) (ap (sight _) (located-left _ _ _ _ (c .before .before .said-located .ensures) (c .before .before .before .locate .ensures)))
 
 same-length-2 : tie.Need-same-length-2
 same-length-2 c = search needs
@@ -52,7 +53,7 @@ same-length-4 c = search needs
 
 returns-3 : tie.Need-returns-3
 unfolding onReading
-returns-3 c = rw (c .before .before .before .before .before .before .what3 .given .1, ← c .before .before .before .skip .ensures) (ap (sight _) (c .before .before .said-skipped .ensures))
+returns-3 c = rw (c .before .before .before .before .before .before .what3 .given .1) (ap (sight _) (skipped-left _ _ _ _ (c .before .before .said-skipped .ensures) (c .before .before .before .skip .ensures)))
 
 pub on-reading-spec : {M : Type 1} → statement M
 on-reading-spec =

@@ -1,7 +1,7 @@
 -- `answers::call::on_searching` meets its contract.
 -- Assumes nothing.
-use Rattle.answers.specs.Calls.{sought, onSearching}
-use Rattle.answers.proofs.Turns.{told-left}
+use Rattle.answers.specs.Calls.{onSearching}
+use Rattle.answers.proofs.Turns.{sought-left}
 use Rattle.script.specs.Text.{spot}
 use borrow.Author.Needs.{needs}
 use Rattle.answers.proofs.call.on_searching.Statement.{statement}
@@ -39,21 +39,21 @@ same-length c = search needs
 
 returns : tie.Need-returns
 unfolding onSearching
-returns c = rw (c .before .before .before .before .before .before .what .given .1) (told-left sought (c .before .before .before .before .before .before .before .before .before .before .before .before .before .args .world) (spot (c .before .before .before .before .before .before .before .before .before .before .before .before .before .args .out .now) (c .before .before .before .before .before .before .before .before .before .before .before .before .before .args .at)) _ _ _ (c .before .before .searched .ensures) (c .before .before .before .before .search .ensures))
+returns c = rw (c .before .before .before .before .before .before .what .given .1) (sought-left (c .before .before .before .before .before .before .before .before .before .before .before .before .before .args .world) (spot (c .before .before .before .before .before .before .before .before .before .before .before .before .before .args .out .now) (c .before .before .before .before .before .before .before .before .before .before .before .before .before .args .at)) _ _ _ (c .before .before .searched .ensures) (c .before .before .before .before .search .ensures))
 
 same-length-2 : tie.Need-same-length-2
 same-length-2 c = search needs
 
 returns-2 : tie.Need-returns-2
 unfolding onSearching
-returns-2 c = rw (c .before .before .before .before .before .enum-told .given .1) (told-left sought (c .before .before .before .before .before .before .before .before .before .before .before .before .args .world) (spot (c .before .before .before .before .before .before .before .before .before .before .before .before .args .out .now) (c .before .before .before .before .before .before .before .before .before .before .before .before .args .at)) _ _ _ (c .before .before .searched2 .ensures) (c .before .before .before .before .left .ensures (c .before .before .before .before .before .before .before .before .before .before .before .before .args .world .table)))
+returns-2 c = rw (c .before .before .before .before .before .enum-told .given .1) (sought-left (c .before .before .before .before .before .before .before .before .before .before .before .before .args .world) (spot (c .before .before .before .before .before .before .before .before .before .before .before .before .args .out .now) (c .before .before .before .before .before .before .before .before .before .before .before .before .args .at)) _ _ _ (c .before .before .searched2 .ensures) (c .before .before .before .before .left .ensures (c .before .before .before .before .before .before .before .before .before .before .before .before .args .world .table)))
 
 same-length-3 : tie.Need-same-length-3
 same-length-3 c = search needs
 
 returns-3 : tie.Need-returns-3
 unfolding onSearching
-returns-3 c = rw (c .before .before .before .before .before .enum-told2 .given .1) (told-left sought (c .before .before .before .before .before .before .before .before .before .before .before .before .args .world) (spot (c .before .before .before .before .before .before .before .before .before .before .before .before .args .out .now) (c .before .before .before .before .before .before .before .before .before .before .before .before .args .at)) _ _ _ (c .before .before .searched3 .ensures) (c .before .before .before .before .right .ensures (c .before .before .before .before .before .before .before .before .before .before .before .before .args .world .table)))
+returns-3 c = rw (c .before .before .before .before .before .enum-told2 .given .1) (sought-left (c .before .before .before .before .before .before .before .before .before .before .before .before .args .world) (spot (c .before .before .before .before .before .before .before .before .before .before .before .before .args .out .now) (c .before .before .before .before .before .before .before .before .before .before .before .before .args .at)) _ _ _ (c .before .before .searched3 .ensures) (c .before .before .before .before .right .ensures (c .before .before .before .before .before .before .before .before .before .before .before .before .args .world .table)))
 
 pub on-searching-spec : {M : Type 1} → statement M
 on-searching-spec =

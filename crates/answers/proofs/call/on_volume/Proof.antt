@@ -1,8 +1,7 @@
 -- `answers::call::on_volume` meets its contract.
 -- Assumes nothing.
 use Rattle.answers.specs.Calls.{onVolume}
-use Rattle.answers.proofs.Turns.{told-left}
-use Rattle.script.specs.Say as say
+use Rattle.answers.proofs.Turns.{done-left}
 use Rattle.script.specs.Text.{spot}
 use borrow.Author.Needs.{needs}
 use Rattle.answers.proofs.call.on_volume.Statement.{statement}
@@ -37,7 +36,7 @@ same-length-3 c = search needs
 
 returns : tie.Need-returns
 unfolding onVolume
-returns c = rw (c .before .before .before .before .before .before .before .before .before .before .before .enum-told .given .1) (told-left say.done (c .before .before .before .before .before .before .before .before .before .before .before .before .before .before .before .before .before .before .args .world) (spot (c .before .before .before .before .before .before .before .before .before .before .before .before .before .before .before .before .before .before .args .out .now) (c .before .before .before .before .before .before .before .before .before .before .before .before .before .before .before .before .before .before .args .at)) _ _ _ (c .before .before .told .ensures) (c .before .before .before .before .before .before .before .before .format .ensures))
+returns c = rw (c .before .before .before .before .before .before .before .before .before .before .before .enum-told .given .1) (done-left (c .before .before .before .before .before .before .before .before .before .before .before .before .before .before .before .before .before .before .args .world) (spot (c .before .before .before .before .before .before .before .before .before .before .before .before .before .before .before .before .before .before .args .out .now) (c .before .before .before .before .before .before .before .before .before .before .before .before .before .before .before .before .before .before .args .at)) _ _ _ (c .before .before .told .ensures) (c .before .before .before .before .before .before .before .before .format .ensures))
 
 same-length-4 : tie.Need-same-length-4
 same-length-4 c = search needs
@@ -50,7 +49,7 @@ same-length-6 c = search needs
 
 returns-2 : tie.Need-returns-2
 unfolding onVolume
-returns-2 c = rw (c .before .before .before .before .before .before .before .before .before .enum-told2 .given .1) (told-left say.done (c .before .before .before .before .before .before .before .before .before .before .before .before .before .before .before .before .args .world) (spot (c .before .before .before .before .before .before .before .before .before .before .before .before .before .before .before .before .args .out .now) (c .before .before .before .before .before .before .before .before .before .before .before .before .before .before .before .before .args .at)) _ _ _ (c .before .before .told2 .ensures) (c .before .before .before .before .before .before .mount .ensures))
+returns-2 c = rw (c .before .before .before .before .before .before .before .before .before .enum-told2 .given .1) (done-left (c .before .before .before .before .before .before .before .before .before .before .before .before .before .before .before .before .args .world) (spot (c .before .before .before .before .before .before .before .before .before .before .before .before .before .before .before .before .args .out .now) (c .before .before .before .before .before .before .before .before .before .before .before .before .before .before .before .before .args .at)) _ _ _ (c .before .before .told2 .ensures) (c .before .before .before .before .before .before .mount .ensures))
 
 pub on-volume-spec : {M : Type 1} → statement M
 on-volume-spec =

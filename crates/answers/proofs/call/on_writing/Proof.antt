@@ -1,8 +1,7 @@
 -- `answers::call::on_writing` meets its contract.
 -- Assumes nothing.
 use Rattle.answers.specs.Calls.{onWriting}
-use Rattle.answers.proofs.Turns.{told-left}
-use Rattle.script.specs.Say as say
+use Rattle.answers.proofs.Turns.{done-left}
 use Rattle.script.specs.Text.{spot}
 use borrow.Author.Needs.{needs}
 use Rattle.answers.proofs.call.on_writing.Statement.{statement}
@@ -67,7 +66,7 @@ same-length-3 c = search needs
 
 returns : tie.Need-returns
 unfolding onWriting
-returns c = rw (c .before .before .before .before .before .before .before .before .before .before .what .given .1) (told-left say.done (c .before .before .before .before .before .before .before .before .before .before .before .before .before .before .before .before .before .before .args .world) (spot (c .before .before .before .before .before .before .before .before .before .before .before .before .before .before .before .before .before .before .args .out .now) (c .before .before .before .before .before .before .before .before .before .before .before .before .before .before .before .before .before .before .args .at)) _ _ _ (c .before .before .told .ensures) (c .before .before .before .before .before .before .«open» .ensures))
+returns c = rw (c .before .before .before .before .before .before .before .before .before .before .what .given .1) (done-left (c .before .before .before .before .before .before .before .before .before .before .before .before .before .before .before .before .before .before .args .world) (spot (c .before .before .before .before .before .before .before .before .before .before .before .before .before .before .before .before .before .before .args .out .now) (c .before .before .before .before .before .before .before .before .before .before .before .before .before .before .before .before .before .before .args .at)) _ _ _ (c .before .before .told .ensures) (c .before .before .before .before .before .before .«open» .ensures))
 
 same-length-4 : tie.Need-same-length-4
 same-length-4 c = search needs
@@ -80,7 +79,7 @@ same-length-6 c = search needs
 
 returns-2 : tie.Need-returns-2
 unfolding onWriting
-returns-2 c = rw (c .before .before .before .before .before .before .before .before .before .before .before .before .before .what2 .given .1, ← c .before .before .before .before .before .before .before .before .before .part-of .ensures) (told-left say.done (c .before .before .before .before .before .before .before .before .before .before .before .before .before .before .before .before .before .before .before .before .before .args .world) (spot (c .before .before .before .before .before .before .before .before .before .before .before .before .before .before .before .before .before .before .before .before .before .args .out .now) (c .before .before .before .before .before .before .before .before .before .before .before .before .before .before .before .before .before .before .before .before .before .args .at)) _ _ _ (c .before .before .told2 .ensures) (c .before .before .before .before .before .before .before .before .write .ensures))
+returns-2 c = rw (c .before .before .before .before .before .before .before .before .before .before .before .before .before .what2 .given .1, ← c .before .before .before .before .before .before .before .before .before .part-of .ensures) (done-left (c .before .before .before .before .before .before .before .before .before .before .before .before .before .before .before .before .before .before .before .before .before .args .world) (spot (c .before .before .before .before .before .before .before .before .before .before .before .before .before .before .before .before .before .before .before .before .before .args .out .now) (c .before .before .before .before .before .before .before .before .before .before .before .before .before .before .before .before .before .before .before .before .before .args .at)) _ _ _ (c .before .before .told2 .ensures) (c .before .before .before .before .before .before .before .before .write .ensures))
 
 same-length-7 : tie.Need-same-length-7
 same-length-7 c = search needs
@@ -93,7 +92,7 @@ same-length-9 c = search needs
 
 returns-3 : tie.Need-returns-3
 unfolding onWriting
-returns-3 c = rw (c .before .before .before .before .before .before .before .enum-told .given .1) (told-left say.done (c .before .before .before .before .before .before .before .before .before .before .before .before .before .before .before .args .world) (spot (c .before .before .before .before .before .before .before .before .before .before .before .before .before .before .before .args .out .now) (c .before .before .before .before .before .before .before .before .before .before .before .before .before .before .before .args .at)) _ _ _ (c .before .before .told3 .ensures) (c .before .before .before .before .record-end .ensures))
+returns-3 c = rw (c .before .before .before .before .before .before .before .enum-told .given .1) (done-left (c .before .before .before .before .before .before .before .before .before .before .before .before .before .before .before .args .world) (spot (c .before .before .before .before .before .before .before .before .before .before .before .before .before .before .before .args .out .now) (c .before .before .before .before .before .before .before .before .before .before .before .before .before .before .before .args .at)) _ _ _ (c .before .before .told3 .ensures) (c .before .before .before .before .record-end .ensures))
 
 same-length-10 : tie.Need-same-length-10
 same-length-10 c = search needs
@@ -106,7 +105,7 @@ same-length-12 c = search needs
 
 returns-4 : tie.Need-returns-4
 unfolding onWriting
-returns-4 c = rw (c .before .before .before .before .before .before .before .before .before .before .before .enum-told2 .given .1) (told-left say.done (c .before .before .before .before .before .before .before .before .before .before .before .before .before .before .before .before .before .before .before .args .world) (spot (c .before .before .before .before .before .before .before .before .before .before .before .before .before .before .before .before .before .before .before .args .out .now) (c .before .before .before .before .before .before .before .before .before .before .before .before .before .before .before .before .before .before .before .args .at)) _ _ _ (c .before .before .told4 .ensures) (c .before .before .before .before .before .before .before .before .finish .ensures))
+returns-4 c = rw (c .before .before .before .before .before .before .before .before .before .before .before .enum-told2 .given .1) (done-left (c .before .before .before .before .before .before .before .before .before .before .before .before .before .before .before .before .before .before .before .args .world) (spot (c .before .before .before .before .before .before .before .before .before .before .before .before .before .before .before .before .before .before .before .args .out .now) (c .before .before .before .before .before .before .before .before .before .before .before .before .before .before .before .before .before .before .before .args .at)) _ _ _ (c .before .before .told4 .ensures) (c .before .before .before .before .before .before .before .before .finish .ensures))
 
 same-length-13 : tie.Need-same-length-13
 same-length-13 c = search needs
@@ -119,7 +118,7 @@ same-length-15 c = search needs
 
 returns-5 : tie.Need-returns-5
 unfolding onWriting
-returns-5 c = rw (c .before .before .before .before .before .before .before .before .before .enum-told3 .given .1) (told-left say.done (c .before .before .before .before .before .before .before .before .before .before .before .before .before .before .before .before .before .args .world) (spot (c .before .before .before .before .before .before .before .before .before .before .before .before .before .before .before .before .before .args .out .now) (c .before .before .before .before .before .before .before .before .before .before .before .before .before .before .before .before .before .args .at)) _ _ _ (c .before .before .told5 .ensures) (c .before .before .before .before .before .before .discard .ensures))
+returns-5 c = rw (c .before .before .before .before .before .before .before .before .before .enum-told3 .given .1) (done-left (c .before .before .before .before .before .before .before .before .before .before .before .before .before .before .before .before .before .args .world) (spot (c .before .before .before .before .before .before .before .before .before .before .before .before .before .before .before .before .before .args .out .now) (c .before .before .before .before .before .before .before .before .before .before .before .before .before .before .before .before .before .args .at)) _ _ _ (c .before .before .told5 .ensures) (c .before .before .before .before .before .before .discard .ensures))
 
 pub on-writing-spec : {M : Type 1} → statement M
 on-writing-spec =

@@ -3,11 +3,13 @@
 use Rattle.answers.proofs.Turns.{back-splice, back-part, read-left}
 use Rattle.runs.specs.Runs.{partOf}
 use Rattle.state.specs.Refusals.{onDone}
+use Rattle.state.specs.World.{before}
+use Rattle.reader.specs.Read.{read}
 use Rattle.script.specs.Text.{ascii, spot, puts}
 use Rattle.script.specs.Say as say
 use borrow.Rule.Slice.PartMut.{mid-len}
 use native.Mathlib.Omega.{arith}
-use lib.ListN.{length}
+use lib.ListN.{length, take}
 use Prim.Native.Nat.{_-_, _≤_}
 use Rattle.answers.specs.Calls.{sight, readOf}
 use borrow.Author.Tests.{lt-ltb, le-ltb}
@@ -75,7 +77,7 @@ returns-2 c = let a = c .before .before .before .before .before .before .before 
     let p = spot (a .out .now) (a .at) in
     let g : c .before .before .before .part-of .result .now ≡ o = c .before .before .before .part-of .ensures ∙ ap (λ l. partOf l 0 (a .n)) (back-splice b o (a .n) h k) ∙ back-part b o (a .n) h k in
     let f : (spot (c .before .before .hex .last .0) (c .before .before .hex .result)) ≡ puts p (onDone (r .result .answer) say.refused (say.hex (ascii "bytes") o)) = rw (c .before .before .before .before .before .before .before .enum-told .given .1, ← g) (c .before .before .hex .ensures) in
-    rw (le-ltb _ _ h) (read-left b o (a .n) h k p _ (r .result) _ e f)
+    rw (le-ltb _ _ h) (read-left b o (a .n) h k p _ (r .result) (read (before (a .image .now) (a .map .now) (a .table) (a .state)) (a .from) (take (a .n) b)) e f)
 
 same-length-4 : tie.Need-same-length-4
 same-length-4 c = search needs
@@ -95,7 +97,7 @@ returns-3 c = let a = c .before .before .before .before .before .before .before 
     let e = rw z at (r .ensures) in
     let p = spot (a .out .now) (a .at) in
     let f : (spot (c .before .before .refused .last .0) (c .before .before .refused .result)) ≡ puts p (onDone (r .result .answer) say.refused (say.hex (ascii "bytes") o)) = rw (c .before .before .before .before .before .answer .given .1) (c .before .before .refused .ensures) in
-    rw (le-ltb _ _ h) (read-left b o (a .n) h k p _ (r .result) _ e f)
+    rw (le-ltb _ _ h) (read-left b o (a .n) h k p _ (r .result) (read (before (a .image .now) (a .map .now) (a .table) (a .state)) (a .from) (take (a .n) b)) e f)
 
 pub read-spec : {M : Type 1} → statement M
 read-spec =

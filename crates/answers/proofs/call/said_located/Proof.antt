@@ -1,5 +1,6 @@
 -- `answers::call::said_located` meets its contract.
 -- Assumes nothing.
+use Rattle.answers.specs.Calls.{located}
 use borrow.Author.Needs.{needs}
 use Rattle.answers.proofs.call.said_located.Statement.{statement}
 use Rattle.answers.proofs.call.said_located.Tie as tie
@@ -26,12 +27,14 @@ same-length : tie.Need-same-length
 same-length c = search needs
 
 returns : tie.Need-returns
+unfolding located
 returns c = rw (c .before .before .before .before .before .before .found .given .1) (c .before .before .two .ensures)
 
 same-length-2 : tie.Need-same-length-2
 same-length-2 c = search needs
 
 returns-2 : tie.Need-returns-2
+unfolding located
 returns-2 c = rw (c .before .before .before .before .before .found2 .given .1) (c .before .before .refused .ensures)
 
 pub said-located-spec : {M : Type 1} → statement M

@@ -1,5 +1,6 @@
 -- `answers::call::said_searched` meets its contract.
 -- Assumes nothing.
+use Rattle.answers.specs.Calls.{sought}
 use borrow.Author.Needs.{needs}
 use Rattle.answers.proofs.call.said_searched.Statement.{statement}
 use Rattle.answers.proofs.call.said_searched.Tie as tie
@@ -32,18 +33,21 @@ same-length : tie.Need-same-length
 same-length c = search needs
 
 returns : tie.Need-returns
+unfolding sought
 returns c = rw (c .before .before .before .before .before .before .answer .given .1) (c .before .before .one .ensures)
 
 same-length-2 : tie.Need-same-length-2
 same-length-2 c = search needs
 
 returns-2 : tie.Need-returns-2
+unfolding sought
 returns-2 c = rw (c .before .before .before .before .before .before .answer2 .given .1) (c .before .before .one2 .ensures)
 
 same-length-3 : tie.Need-same-length-3
 same-length-3 c = search needs
 
 returns-3 : tie.Need-returns-3
+unfolding sought
 returns-3 c = rw (c .before .before .before .before .before .answer3 .given .1) (c .before .before .refused .ensures)
 
 pub said-searched-spec : {M : Type 1} → statement M

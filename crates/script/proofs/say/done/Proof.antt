@@ -1,5 +1,6 @@
 -- `script::say::done` meets its contract.
 -- Assumes nothing.
+use Rattle.script.specs.Say.{done}
 use borrow.Author.Needs.{needs}
 use Rattle.script.proofs.say.done.Statement.{statement}
 use Rattle.script.proofs.say.done.Tie as tie
@@ -20,12 +21,14 @@ same-length : tie.Need-same-length
 same-length c = search needs
 
 returns : tie.Need-returns
+unfolding done
 returns c = rw (c .before .before .before .before .enum-told .given .1) (c .before .before .ok .ensures)
 
 same-length-2 : tie.Need-same-length-2
 same-length-2 c = search needs
 
 returns-2 : tie.Need-returns-2
+unfolding done
 returns-2 c = rw (c .before .before .before .before .before .answer .given .1) (c .before .before .refused .ensures)
 
 pub done-spec : {M : Type 1} → statement M
