@@ -23,6 +23,10 @@ saying w p said = record { out = puts p said; world = w }
 
 -- ---- the commands that are no calls, on the whole buffers
 
+-- a world of which as much of the buffers is lent
+abbrev pub lending : World → ℕ → ℕ → World
+lending w image map = record { table = w .table; state = w .state; image = image; map = map }
+
 -- a buffer with a run poked into it, and what is said of it: `bad` past its end
 unfoldable pub pokedBy : List ℕ → ℕ → List ℕ → Spot → Sight
 pokedBy l at run p = sight (placed l at run) (puts p (cond (leb (at + length run) (length l)) ok bad))
@@ -34,7 +38,7 @@ abbrev pub pokedMap : List ℕ → World → Sight → Left
 pokedMap i w s = left i (s .bytes) (record { out = s .out; world = w })
 
 unfoldable pub onSetup : Setup → List ℕ → List ℕ → List ℕ → World → Spot → Left
-onSetup (Lend a b) i m bytes w p = left i m (saying (record { table = w .table; state = w .state; image = a; map = b }) p ok)
+onSetup (Lend a b) i m bytes w p = left i m (saying (lending w a b) p ok)
 onSetup (New seed) i m bytes w p = left i m (saying (fresh seed (w .image) (w .map)) p ok)
 onSetup Blank i m bytes w p = left (replicate (length i) 255) (replicate (length m) 0) (saying w p ok)
 onSetup (Poke at n) i m bytes w p = pokedImage m w (pokedBy i at (partOf bytes 0 n) p)

@@ -6,13 +6,12 @@ use crate::world::World;
 use script::command::Command;
 use script::command::Setup;
 use script::say;
-use script::show;
 ghost use mathlib.Core.Path.{_≡_};
 ghost use Prim.Native.Nat.{min};
 ghost use Rattle.script.specs.Text.{spot};
 ghost use Rattle.answers.specs.World.{turned, left, scene};
 ghost use Rattle.answers.specs.Calls.{sight};
-ghost use Rattle.answers.specs.Answer.{pokedBy, onSetup, onLent, onCommand, answered};
+ghost use Rattle.answers.specs.Answer.{lending, pokedBy, onSetup, onLent, onCommand, answered};
 
 fn least(a: usize, b: usize) -> usize
     ensures { λ r. ⌜ r ≡ min a b ⌝ }
@@ -33,6 +32,15 @@ fn poke(target: &mut [u8], offset: usize, run: &[u8], out: &mut [u8], at: usize)
     say::ok(out, at)
 }
 
+fn lending(world: World, image: usize, map: usize) -> World
+    ensures { λ r. ⌜ r ≡ lending world image map ⌝ }
+{
+    let mut next = world;
+    next.image = image;
+    next.map = map;
+    next
+}
+
 // The commands that are no calls, on the whole buffers.
 fn on_setup(
     image: &mut [u8],
@@ -46,22 +54,14 @@ fn on_setup(
     ensures { λ r. ⌜ left (now (image .exit)) (now (map .exit)) (turned (now (out .exit)) r) ≡ onSetup what (now (image .entry)) (now (map .entry)) (now (bytes .entry)) world (spot (now (out .entry)) at) ⌝ }
 {
     match what {
-        Setup::Lend(i, m) => {
-            let mut next = world;
-            next.image = i as usize;
-            next.map = m as usize;
-            Turn {
-                world: next,
-                at: say::ok(out, at),
-            }
-        }
-        Setup::New(seed) => {
-            let next = world::fresh(seed, world.image, world.map);
-            Turn {
-                world: next,
-                at: say::ok(out, at),
-            }
-        }
+        Setup::Lend(i, m) => Turn {
+            world: lending(world, i as usize, m as usize),
+            at: say::ok(out, at),
+        },
+        Setup::New(seed) => Turn {
+            world: world::fresh(seed, world.image, world.map),
+            at: say::ok(out, at),
+        },
         Setup::Blank => {
             runs::fill(image, 255);
             runs::fill(map, 0);
@@ -103,14 +103,10 @@ fn on_lent(
         Command::Searching(what) => call::on_searching(image, map, out, at, world, what),
         Command::Writing(what) => call::on_writing(image, map, bytes, out, at, world, what),
         Command::Files(what) => call::on_files(image, map, out, at, world, what),
-        Command::Show(what) => {
-            let table = world.table;
-            let state = world.state;
-            Turn {
-                world,
-                at: show::on_show(image, map, out, at, table, state, what),
-            }
-        }
+        Command::Show(what) => Turn {
+            world,
+            at: call::on_show(image, map, out, at, world, what),
+        },
         Command::Helper(what) => Turn {
             world,
             at: call::on_helper(out, at, what),

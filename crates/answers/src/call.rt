@@ -8,9 +8,11 @@ use script::command::Files;
 use script::command::Helper;
 use script::command::Reading;
 use script::command::Searching;
+use script::command::Show;
 use script::command::Volume;
 use script::command::Writing;
 use script::say;
+use script::show;
 use search::SearchOut;
 use state::types::Done;
 use state::types::Out;
@@ -22,6 +24,7 @@ ghost use Rattle.state.specs.World.{before};
 ghost use Rattle.state.specs.Values.{withSearch};
 ghost use Rattle.script.specs.Text.{spot, puts};
 ghost use Rattle.script.specs.Say.{done};
+ghost use Rattle.script.specs.Show.{shown};
 ghost use Rattle.answers.specs.World.{turned, left};
 ghost use Rattle.answers.specs.Calls.{toldBy, onVolume, located, skipped, sight, readOf, onReading, sought, onSearching, onWriting, onFiles, replied, onHelper};
 
@@ -273,6 +276,21 @@ pub fn on_files(
             told(out, at, world, r)
         }
     }
+}
+
+pub fn on_show(
+    image: &[u8],
+    map: &[u8],
+    out: &mut [u8],
+    at: usize,
+    world: World,
+    what: Show,
+) -> usize
+    ensures { λ r. ⌜ spot (now (out .exit)) r ≡ puts (spot (now (out .entry)) at) (shown (now (image .entry)) (now (map .entry)) (world .table) (world .state) what) ⌝ }
+{
+    let table = world.table;
+    let state = world.state;
+    show::on_show(image, map, out, at, table, state, what)
 }
 
 fn said_number(out: &mut [u8], at: usize, answer: seq::numbers::Answer) -> usize

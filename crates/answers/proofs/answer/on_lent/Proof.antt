@@ -145,7 +145,7 @@ same-length-20 c = search needs
 
 returns-6 : tie.Need-returns-6
 unfolding onLent
-returns-6 c = rw (c .before .before .before .before .before .before .before .before .before .command6 .given .1) (ap (scene _) (said-left _ _ _ _ _ (c .before .before .on-show .ensures)))
+returns-6 c = rw (c .before .before .before .before .before .before .before .command6 .given .1) (ap (scene _) (said-left _ _ _ _ _ (c .before .before .on-show .ensures)))
 
 same-length-21 : tie.Need-same-length-21
 same-length-21 c = search needs

@@ -10,11 +10,14 @@ use Rattle.answers.proofs.answer.on_setup.Tie as tie
 enum-known-what : tie.Need-enum-known-what
 enum-known-what c = search needs
 
-cast-next : tie.Need-cast-next
-cast-next c = search needs
+cast-lending : tie.Need-cast-lending
+cast-lending c = search needs
 
-cast-next-2 : tie.Need-cast-next-2
-cast-next-2 c = search needs
+cast-lending-2 : tie.Need-cast-lending-2
+cast-lending-2 c = search needs
+
+lending-requires : tie.Need-lending-requires
+lending-requires c κs = search needs
 
 ok-requires : tie.Need-ok-requires
 ok-requires c κs = search needs
@@ -69,7 +72,7 @@ same-length c = search needs
 
 returns : tie.Need-returns
 unfolding onSetup
-returns c = rw (c .before .before .before .before .before .what .given .1) (said-left _ _ _ _ _ (c .before .before .ok .ensures))
+returns c = rw (c .before .before .before .before .before .before .what .given .1, ← c .before .before .before .before .lending .ensures) (said-left _ _ _ _ _ (c .before .before .ok .ensures))
 
 same-length-2 : tie.Need-same-length-2
 same-length-2 c = search needs
@@ -116,8 +119,9 @@ on-setup-spec =
     tie.close
     (tie.spec
     enum-known-what
-    cast-next
-    cast-next-2
+    cast-lending
+    cast-lending-2
+    lending-requires
     ok-requires
     enum-known-what-2
     fresh-requires
