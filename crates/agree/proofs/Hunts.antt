@@ -23,7 +23,7 @@ use Rattle.owners.specs.Store.{file}
 use Rattle.page.specs.Page.{Read, unreadable, readable}
 use Rattle.state.specs.Checks.{search_ok}
 use Rattle.state.specs.Values.{no_search}
-use Rattle.state.specs.World.{result}
+use Rattle.state.specs.World.{after_call}
 use Rattle.chain.specs.Steps.{is_page}
 use Rattle.chain.proofs.Seeks.{right}
 use Rattle.map.specs.Map.{steps}

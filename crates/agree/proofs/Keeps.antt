@@ -46,7 +46,7 @@ use Rattle.page.specs.Store.{stored}
 use Rattle.state.specs.Checks.{checks}
 use Rattle.state.specs.Refusals.{on_done}
 use Rattle.state.specs.Values.{file_at, with_file, is_empty, in_shape, flagged, with_flags, no_search, opened, with_writer, with_search}
-use Rattle.state.specs.World.{result}
+use Rattle.state.specs.World.{after_call}
 use Rattle.state.proofs.Laws.{OpenSearch, search_says, Passed, checks_pass}
 use Rattle.chain.specs.Steps.{read_at, Sought}
 use Rattle.chain.proofs.Chains.{copied}

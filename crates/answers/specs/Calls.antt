@@ -8,7 +8,7 @@ use Rattle.state.specs.declared.types.State.{State}
 use Rattle.state.specs.declared.types.Done.{Done}
 use Rattle.state.specs.Refusals.{on_done}
 use Rattle.state.specs.World as W
-use Rattle.state.specs.World.{After, result, before}
+use Rattle.state.specs.World.{After, after_call, before}
 use Rattle.volume.specs.Format as VolumeFormat
 use Rattle.volume.specs.Mount as VolumeMount
 use Rattle.reader.specs.declared.Located.{Located}
@@ -58,7 +58,7 @@ abbrev pub told : {A : Type 0} → (A → List (List ℕ)) → World → Spot �
 told say w p a = left a.world.image a.world.map (told_by w p (say a.answer) a.world.table a.world.state)
 
 abbrev pub done_by : (W.World → W.Outcome Done) → List ℕ → List ℕ → World → Spot → Left
-done_by call i m w p = told say.done w p (result call (lent i m w))
+done_by call i m w p = told say.done w p (after_call call (lent i m w))
 
 unfoldable pub on_volume : Volume → List ℕ → List ℕ → World → Spot → Left
 on_volume Format i m w p = done_by VolumeFormat.format i m w p
@@ -104,9 +104,9 @@ sought (A.End seq) = with_one (ascii "end %\n") seq
 sought (A.Refused why) = say.refused why
 
 unfoldable pub on_searching : Searching → List ℕ → List ℕ → World → Spot → Left
-on_searching (Search file) i m w p = told sought w p (result (λ v. SearchCalls.start v file) (lent i m w))
-on_searching ToLeft i m w p = told sought w p (result SearchCalls.left (lent i m w))
-on_searching ToRight i m w p = told sought w p (result SearchCalls.right (lent i m w))
+on_searching (Search file) i m w p = told sought w p (after_call (λ v. SearchCalls.start v file) (lent i m w))
+on_searching ToLeft i m w p = told sought w p (after_call SearchCalls.left (lent i m w))
+on_searching ToRight i m w p = told sought w p (after_call SearchCalls.right (lent i m w))
 
 -- ---- writing and files
 

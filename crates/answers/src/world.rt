@@ -4,7 +4,7 @@ ghost use Rattle.answers.specs.World.{fresh};
 
 use state::types::{State, Table};
 
-#[derive(Drop)]
+#[derive(Clone, Copy)]
 pub struct World {
     pub table: Table,
     pub state: State,
@@ -13,7 +13,7 @@ pub struct World {
 }
 
 // The world after an answer, and where the answer ends.
-#[derive(Drop)]
+#[derive(Clone, Copy)]
 pub struct Turn {
     pub world: World,
     pub at: usize,

@@ -5,7 +5,7 @@ use Rattle.state.specs.declared.types.Table.{Table}
 use Rattle.state.specs.declared.types.State.{State}
 use Rattle.state.specs.declared.types.Done.{Done}
 use Rattle.state.specs.declared.types.Done.TheVariants.{Done as Fine, Refused}
-use Rattle.state.specs.World.{World, result}
+use Rattle.state.specs.World.{World, after_call}
 use Rattle.volume.specs.Format as VolumeFormat
 use Rattle.volume.specs.Mount as VolumeMount
 use Rattle.reader.specs.declared.Reader.{Reader}
@@ -53,24 +53,24 @@ pub data Call : Type 0 where
 
 -- the world after a call: those that only read leave it
 unfoldable pub step : Call → World → World
-step format w = (result VolumeFormat.format w).world
-step mount w = (result VolumeMount.mount w).world
+step format w = (after_call VolumeFormat.format w).world
+step mount w = (after_call VolumeMount.mount w).world
 step (locate file seq) w = w
 step (read r out) w = w
 step (skip r n) w = w
 step (seek file n) w = w
-step (search file) w = (result (λ v. SearchCalls.start v file) w).world
-step left w = (result SearchCalls.left w).world
-step right w = (result SearchCalls.right w).world
-step (open_writer_lem file) w = (result (λ v. open_writer v file) w).world
-step (write l ok) w = (result (λ v. WriterWrite.write v l) w).world
-step record_end_lem w = (result record_end w).world
-step finish w = (result WriterFinish.finish w).world
-step discard w = (result WriterFinish.discard w).world
-step (truncate file n) w = (result (λ v. TransactTruncate.truncate v file n) w).world
-step (rename i j) w = (result (λ v. TransactRename.rename v i j) w).world
-step (flags file n ok) w = (result (λ v. TransactRename.flags v file n) w).world
-step commit w = (result TransactCommit.commit w).world
+step (search file) w = (after_call (λ v. SearchCalls.start v file) w).world
+step left w = (after_call SearchCalls.left w).world
+step right w = (after_call SearchCalls.right w).world
+step (open_writer_lem file) w = (after_call (λ v. open_writer v file) w).world
+step (write l ok) w = (after_call (λ v. WriterWrite.write v l) w).world
+step record_end_lem w = (after_call record_end w).world
+step finish w = (after_call WriterFinish.finish w).world
+step discard w = (after_call WriterFinish.discard w).world
+step (truncate file n) w = (after_call (λ v. TransactTruncate.truncate v file n) w).world
+step (rename i j) w = (after_call (λ v. TransactRename.rename v i j) w).world
+step (flags file n ok) w = (after_call (λ v. TransactRename.flags v file n) w).world
+step commit w = (after_call TransactCommit.commit w).world
 
 -- ---- what a call answers: done, or its refusal
 
@@ -114,13 +114,13 @@ pub record Formatted (w : World) : Type 0 where
   pub from : World
   pub bytes : Bytes from.image
   pub done : (VolumeFormat.format from).answer ≡ Fine
-  pub left : w ≡ (result VolumeFormat.format from).world
+  pub left : w ≡ (after_call VolumeFormat.format from).world
 
 pub record Mounted (w : World) : Type 0 where
   pub from : World
   pub bytes : Bytes from.image
   pub done : (VolumeMount.mount from).answer ≡ Fine
-  pub left : w ≡ (result VolumeMount.mount from).world
+  pub left : w ≡ (after_call VolumeMount.mount from).world
 
 -- what any calls with any arguments, refused ones too, reach from a start
 pub data Reach (Start : World → Type 0) : World → Type 0 where

@@ -1,1 +1,2 @@
 // No code: all calls as one step, and the worlds that they reach.
+#![tactic(auto)]

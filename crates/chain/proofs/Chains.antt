@@ -70,7 +70,8 @@ module _ (count d : ℕ) where
       go (no c) r =
           let lt = lt_of_not-le c in
           let w = r (omega (arith, k.0.meets)) in
-          rw (lt-leb (start p) t lt) (w.0, w.1, inr w.2)
+          let e : holder t p (q ∷ l) ≡ holder t q l = rw (lt-leb (start p) t lt) in
+          subst (λ (x : PagePointer). (start x ≤ t) × (t < end x) × Among x p (q ∷ l)) (sym e) (w.0, w.1, inr w.2)
 
   -- no other page of the chain holds t
   pub holder_one : (t : ℕ) (x p : PagePointer) (l : List PagePointer) → Linked count d p l → Among x p l → start x ≤ t → t < end x → x ≡ holder t p l

@@ -1,4 +1,6 @@
 // A file's pages: the links of a new page, one step back, and the seek over the links.
+#![tactic(auto)]
+
 ghost use Rattle.std.specs.Prelude.{◌≡◌};
 ghost use Rattle.seq.specs.Seq.{level};
 ghost use Rattle.page.specs.Page.{gives, gives_back};
@@ -13,13 +15,13 @@ use seq::ids::{OptionPageID, PageOption};
 use state::types::FileRecord;
 
 // A page of a file with its header.
-#[derive(Drop)]
+#[derive(Clone, Copy)]
 pub struct PagePointer {
     pub page_id: u16,
     pub header: DataHeader,
 }
 
-#[derive(Drop)]
+#[derive(Clone, Copy)]
 pub enum Kind {
     Stays,
     Reaches,
@@ -27,14 +29,14 @@ pub enum Kind {
 }
 
 // Where a step ends: page is the one reached, else the one stepped from.
-#[derive(Drop)]
+#[derive(Clone, Copy)]
 pub struct Step {
     pub kind: Kind,
     pub page: PagePointer,
 }
 
 // A page of a file with what a step back asks of its header: its first number and its link 0.
-#[derive(Drop)]
+#[derive(Clone, Copy)]
 pub struct Place {
     pub page_id: u16,
     pub seq: u32,
@@ -42,21 +44,21 @@ pub struct Place {
 }
 
 // Where a step back ends: place is the page reached, else the one stepped from.
-#[derive(Drop)]
+#[derive(Clone, Copy)]
 pub struct BackStep {
     pub kind: Kind,
     pub place: Place,
 }
 
 // Where a walk back ends. Damaged: the page that it began at.
-#[derive(Drop)]
+#[derive(Clone, Copy)]
 pub struct Reached {
     pub ok: bool,
     pub place: Place,
 }
 
 // Where a seek ends, and how many headers it read. Damaged: the page that it began at, and 0.
-#[derive(Drop)]
+#[derive(Clone, Copy)]
 pub struct Found {
     pub ok: bool,
     pub count: u32,

@@ -11,7 +11,7 @@ use Rattle.state.specs.declared.types.Refusal.{Refusal}
 use Rattle.state.specs.declared.types.Done.TheVariants.{Done as Fine, Refused}
 use Rattle.state.specs.Checks.{is_mounted}
 use Rattle.state.specs.Values.{file_at, unmounted}
-use Rattle.state.specs.World.{World, result}
+use Rattle.state.specs.World.{World, after_call}
 use Rattle.volume.specs.Mount as VolumeMount
 use Rattle.transact.specs.Commit.{commit}
 use Rattle.reader.specs.declared.Reader.{Reader}
@@ -76,13 +76,13 @@ one_of_both w reached = format_either reached
 
 -- Where commit succeeds, mount of the image that it leaves, with any map of that length, any table and any state, succeeds and gives the same
 -- eight files: last page and header, first_seq, last_seq, flags, and the same byte at every live number.
-pub demand_2 : (w : World) → FromEither w → (result commit w).answer ≡ Fine → (m : List ℕ) (t : Table) (s : State) → length m ≡ length w.map → Again w m t s
+pub demand_2 : (w : World) → FromEither w → (after_call commit w).answer ≡ Fine → (m : List ℕ) (t : Table) (s : State) → length m ≡ length w.map → Again w m t s
 demand_2 w reached done m t s size = sound_commit (either_sound reached) done m t s size
 
 -- From a format, with a transaction open or not, read of live numbers after that commit and mount gives the bytes that the files held before.
-pub demand_2_read : (w : World) → FromFormat w → (result commit w).answer ≡ Fine → (m : List ℕ) (t : Table) (s : State) → length m ≡ length w.map
+pub demand_2_read : (w : World) → FromFormat w → (after_call commit w).answer ≡ Fine → (m : List ℕ) (t : Table) (s : State) → length m ≡ length w.map
     → (r : Reader) (out : List ℕ) → r.file < 8 → 0 < length out → (file_at w.table r.file).first_seq ≤ r.seq
-    → r.seq + length out ≤ (file_at w.table r.file).last_seq → Reads w (result VolumeMount.mount (afresh w m t s)).world r out
+    → r.seq + length out ≤ (file_at w.table r.file).last_seq → Reads w (after_call VolumeMount.mount (afresh w m t s)).world r out
 demand_2_read w reached done m t s size r out file some first last = commit_reads (format_reached reached) done m t s size r out file some first last
 
 -- ---- DEMAND 3

@@ -8,7 +8,7 @@ use Rattle.state.specs.declared.types.FileRecord.{FileRecord}
 use Rattle.state.specs.declared.types.Done.TheVariants.{Done as Fine}
 use Rattle.state.specs.Checks.{is_mounted}
 use Rattle.state.specs.Values.{file_at, empty_table, unmounted}
-use Rattle.state.specs.World.{World, result}
+use Rattle.state.specs.World.{World, after_call}
 use Rattle.reader.specs.declared.Located.TheVariants.{At}
 use Rattle.reader.specs.declared.Reader.{Reader}
 use Rattle.calls.specs.Calls as calls
@@ -143,7 +143,7 @@ read_220 = demand_3_read committed reached_committed idle from_220 (replicate 10
 abbrev any_map : List ℕ
 any_map = replicate 8 7
 
-commits : (result TransactCommit.commit written).answer ≡ Fine
+commits : (after_call TransactCommit.commit written).answer ≡ Fine
 unfolding computing
 commits = refl
 
@@ -162,7 +162,7 @@ last_w = refl
 again : Again written any_map empty_table (unmounted 9)
 again = demand_2 written (one_of_both written reached_written) commits any_map empty_table (unmounted 9) eight
 
-read_again : Reads written (result VolumeMount.mount (afresh written any_map empty_table (unmounted 9))).world from_220 (replicate 10 9)
+read_again : Reads written (after_call VolumeMount.mount (afresh written any_map empty_table (unmounted 9))).world from_220 (replicate 10 9)
 read_again = demand_2_read written reached_written commits any_map empty_table (unmounted 9) eight from_220 (replicate 10 9) (omega arith) (omega arith) (omega (arith, first_w)) (omega (arith, last_w))
 
 -- PARTITION of pages of every kind: used, held and free
@@ -243,7 +243,7 @@ page_of_5 = partition renamed reached_renamed stands 0 (omega (arith, count_3))
 abbrev any_four : List ℕ
 any_four = replicate 4 7
 
-commits_too : (result TransactCommit.commit renamed).answer ≡ Fine
+commits_too : (after_call TransactCommit.commit renamed).answer ≡ Fine
 unfolding computing
 commits_too = refl
 

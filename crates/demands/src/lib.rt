@@ -1,1 +1,2 @@
 // No code: the demands, stated.
+#![tactic(auto)]

@@ -1,7 +1,9 @@
 // All calls for C and Rust: image and map are lent, table and state go in and come back by value; a search changes the state in place.
+#![tactic(auto)]
+
 ghost use Rattle.std.specs.Prelude.{◌≡◌};
 ghost use Rattle.state.specs.Values.{unmounted, empty_table};
-ghost use Rattle.state.specs.World.{before, result};
+ghost use Rattle.state.specs.World.{before, after_call};
 ghost use Rattle.volume.specs.Format.{format};
 ghost use Rattle.volume.specs.Mount.{mount};
 ghost use Rattle.reader.specs.Ask.{reader_at, free_pages, used_pages};
@@ -26,7 +28,7 @@ mod replies;
 // An unmounted state of this seed.
 #[unsafe(no_mangle)]
 pub extern "C" fn mv_new_state(seed: u32) -> State
-    ensures* { λ r. ⌜ r ≡ unmounted seed ⌝ }
+    ensures { result ≡ unmounted seed }
 {
     state::values::new_state(seed)
 }
@@ -34,7 +36,7 @@ pub extern "C" fn mv_new_state(seed: u32) -> State
 // Eight empty files.
 #[unsafe(no_mangle)]
 pub extern "C" fn mv_empty_table() -> Table
-    ensures* { λ r. ⌜ r ≡ empty_table ⌝ }
+    ensures { result ≡ empty_table }
 {
     state::values::empty_table()
 }
@@ -42,7 +44,7 @@ pub extern "C" fn mv_empty_table() -> Table
 // Empties the image and mounts it.
 #[unsafe(no_mangle)]
 pub extern "C" fn mv_format(image: &mut [u8], map: &mut [u8], table: Table, state: State) -> Reply
-    ensures* { λ r. ⌜ Replied r image.new map.new (result format (before image.old map.old table state)) ⌝ }
+    ensures { Replied result image.new map.new (after_call format (before image.old map.old table state)) }
 {
     replies::reply_of(volume::format(image, map, table, state))
 }
@@ -50,7 +52,7 @@ pub extern "C" fn mv_format(image: &mut [u8], map: &mut [u8], table: Table, stat
 // Mounts an image as it is.
 #[unsafe(no_mangle)]
 pub extern "C" fn mv_mount(image: &[u8], map: &mut [u8], table: Table, state: State) -> Reply
-    ensures* { λ r. ⌜ Replied r image.now map.new (result mount (before image.now map.old table state)) ⌝ }
+    ensures { Replied result image.now map.new (after_call mount (before image.now map.old table state)) }
 {
     replies::reply_of(volume::mount(image, map, table, state))
 }
@@ -65,7 +67,7 @@ pub extern "C" fn mv_locate(
     file: u8,
     seq: u32,
 ) -> LocateReply
-    ensures* { λ r. ⌜ r ≡ located_reply (locate (before image.now map.now table state) file seq) ⌝ }
+    ensures { result ≡ located_reply (locate (before image.now map.now table state) file seq) }
 {
     replies::located(reader::locate(image, map, table, state, file, seq))
 }
@@ -81,7 +83,7 @@ pub extern "C" fn mv_read(
     seq: u32,
     out: &mut [u8],
 ) -> SeqReply
-    ensures* { λ r. ⌜ ReadReplied r out.new (read (before image.now map.now table state) (record { file = file; seq = seq }) out.old) ⌝ }
+    ensures { ReadReplied result out.new (read (before image.now map.now table state) (record { file = file; seq = seq }) out.old) }
 {
     replies::read_reply(reader::read(image, map, table, state, Reader { file, seq }, out))
 }
@@ -97,7 +99,7 @@ pub extern "C" fn mv_skip(
     seq: u32,
     len: usize,
 ) -> SeqReply
-    ensures* { λ r. ⌜ r ≡ skipped_reply seq (skip (before image.now map.now table state) (record { file = file; seq = seq }) len) ⌝ }
+    ensures { result ≡ skipped_reply seq (skip (before image.now map.now table state) (record { file = file; seq = seq }) len) }
 {
     replies::skipped(
         reader::skip(image, map, table, state, Reader { file, seq }, len),
@@ -115,7 +117,7 @@ pub extern "C" fn mv_seek(
     file: u8,
     offs: usize,
 ) -> SeqReply
-    ensures* { λ r. ⌜ r ≡ skipped_reply (reader_at table file).seq (seek_offset (before image.now map.now table state) file offs) ⌝ }
+    ensures { result ≡ skipped_reply (reader_at table file).seq (seek_offset (before image.now map.now table state) file offs) }
 {
     let new = reader::ask::reader_of(table, file);
     replies::skipped(reader::seek(image, map, table, state, file, offs), new.seq)
@@ -130,7 +132,7 @@ pub extern "C" fn mv_search(
     state: &mut State,
     file: u8,
 ) -> SearchReply
-    ensures* { λ r. ⌜ SearchReplied r image.now map.now table state.new (result (λ w. start w file) (before image.now map.now table state.old)) ⌝ }
+    ensures { SearchReplied result image.now map.now table state.new (after_call (λ w. start w file) (before image.now map.now table state.old)) }
 {
     let out = searched(image, map, table, *state, file);
     state.search = replies::search_in(out);
@@ -145,7 +147,7 @@ pub extern "C" fn mv_turn(
     state: &mut State,
     to_right: bool,
 ) -> SearchReply
-    ensures* { λ r. ⌜ ((t : Table) → SearchReplied r image.now map.now t state.new (result (turn to_right) (before image.now map.now t state.old))) ⌝ }
+    ensures { ((t : Table) → SearchReplied result image.now map.now t state.new (after_call (turn to_right) (before image.now map.now t state.old))) }
 {
     let out = turned(image, map, *state, to_right);
     state.search = replies::search_in(out);
@@ -154,13 +156,13 @@ pub extern "C" fn mv_turn(
 
 // The two by value.
 fn searched(image: &[u8], map: &[u8], table: Table, state: State, file: u8) -> SearchParts
-    ensures* { λ r. ⌜ SoughtReplied r image.now map.now table state (result (λ w. start w file) (before image.now map.now table state)) ⌝ }
+    ensures { SoughtReplied result image.now map.now table state (after_call (λ w. start w file) (before image.now map.now table state)) }
 {
     replies::sought(search::search::search(image, map, table, state, file))
 }
 
 fn turned(image: &[u8], map: &[u8], state: State, to_right: bool) -> SearchParts
-    ensures* { λ r. ⌜ ((t : Table) → SoughtReplied r image.now map.now t state (result (turn to_right) (before image.now map.now t state))) ⌝ }
+    ensures { ((t : Table) → SoughtReplied result image.now map.now t state (after_call (turn to_right) (before image.now map.now t state))) }
 {
     replies::sought(search::search::turn(image, map, state, to_right))
 }
@@ -174,7 +176,7 @@ pub extern "C" fn mv_open(
     state: State,
     file: u8,
 ) -> Reply
-    ensures* { λ r. ⌜ Replied r image.now map.new (result (λ w. open_writer w file) (before image.now map.old table state)) ⌝ }
+    ensures { Replied result image.now map.new (after_call (λ w. open_writer w file) (before image.now map.old table state)) }
 {
     replies::reply_of(writer::open::open(image, map, table, state, file))
 }
@@ -188,7 +190,7 @@ pub extern "C" fn mv_write(
     state: State,
     bytes: &[u8],
 ) -> Reply
-    ensures* { λ r. ⌜ Replied r image.new map.new (result (λ w. write w bytes.now) (before image.old map.old table state)) ⌝ }
+    ensures { Replied result image.new map.new (after_call (λ w. write w bytes.now) (before image.old map.old table state)) }
 {
     replies::reply_of(writer::write::write(image, map, table, state, bytes))
 }
@@ -196,7 +198,7 @@ pub extern "C" fn mv_write(
 // Ends a record at the writer's place.
 #[unsafe(no_mangle)]
 pub extern "C" fn mv_record_end(image: &[u8], map: &[u8], table: Table, state: State) -> Reply
-    ensures* { λ r. ⌜ Replied r image.now map.now (result record_end (before image.now map.now table state)) ⌝ }
+    ensures { Replied result image.now map.now (after_call record_end (before image.now map.now table state)) }
 {
     replies::reply_of(writer::write::record_end(image, map, table, state))
 }
@@ -204,7 +206,7 @@ pub extern "C" fn mv_record_end(image: &[u8], map: &[u8], table: Table, state: S
 // Stores what is staged and closes the writer.
 #[unsafe(no_mangle)]
 pub extern "C" fn mv_finish(image: &mut [u8], map: &mut [u8], table: Table, state: State) -> Reply
-    ensures* { λ r. ⌜ Replied r image.new map.new (result finish (before image.old map.old table state)) ⌝ }
+    ensures { Replied result image.new map.new (after_call finish (before image.old map.old table state)) }
 {
     replies::reply_of(writer::finish::finish(image, map, table, state))
 }
@@ -212,7 +214,7 @@ pub extern "C" fn mv_finish(image: &mut [u8], map: &mut [u8], table: Table, stat
 // Closes the writer and gives its pages back.
 #[unsafe(no_mangle)]
 pub extern "C" fn mv_discard(image: &[u8], map: &mut [u8], table: Table, state: State) -> Reply
-    ensures* { λ r. ⌜ Replied r image.now map.new (result discard (before image.now map.old table state)) ⌝ }
+    ensures { Replied result image.now map.new (after_call discard (before image.now map.old table state)) }
 {
     replies::reply_of(writer::finish::discard(image, map, table, state))
 }
@@ -227,7 +229,7 @@ pub extern "C" fn mv_truncate(
     file: u8,
     bytes: usize,
 ) -> Reply
-    ensures* { λ r. ⌜ Replied r image.now map.new (result (λ w. truncate w file bytes) (before image.now map.old table state)) ⌝ }
+    ensures { Replied result image.now map.new (after_call (λ w. truncate w file bytes) (before image.now map.old table state)) }
 {
     replies::reply_of(transact::truncate::truncate(image, map, table, state, file, bytes))
 }
@@ -242,7 +244,7 @@ pub extern "C" fn mv_rename(
     from: u8,
     to: u8,
 ) -> Reply
-    ensures* { λ r. ⌜ Replied r image.now map.now (result (λ w. rename w from to) (before image.now map.now table state)) ⌝ }
+    ensures { Replied result image.now map.now (after_call (λ w. rename w from to) (before image.now map.now table state)) }
 {
     replies::reply_of(transact::rename::rename(image, map, table, state, from, to))
 }
@@ -257,7 +259,7 @@ pub extern "C" fn mv_flags(
     file: u8,
     flags: u8,
 ) -> Reply
-    ensures* { λ r. ⌜ Replied r image.now map.now (result (λ w. changed_by w file flags) (before image.now map.now table state)) ⌝ }
+    ensures { Replied result image.now map.now (after_call (λ w. changed_by w file flags) (before image.now map.now table state)) }
 {
     replies::reply_of(transact::flags::changed(image, map, table, state, file, flags))
 }
@@ -265,7 +267,7 @@ pub extern "C" fn mv_flags(
 // Makes all changes since the last commit last.
 #[unsafe(no_mangle)]
 pub extern "C" fn mv_commit(image: &mut [u8], map: &mut [u8], table: Table, state: State) -> Reply
-    ensures* { λ r. ⌜ Replied r image.new map.new (result commit (before image.old map.old table state)) ⌝ }
+    ensures { Replied result image.new map.new (after_call commit (before image.old map.old table state)) }
 {
     replies::reply_of(transact::commit::commit(image, map, table, state))
 }
@@ -273,7 +275,7 @@ pub extern "C" fn mv_commit(image: &mut [u8], map: &mut [u8], table: Table, stat
 // How many pages are free.
 #[unsafe(no_mangle)]
 pub extern "C" fn mv_free_pages(map: &[u8], state: State) -> usize
-    ensures* { λ r. ⌜ r ≡ free_pages map.now state ⌝ }
+    ensures { result ≡ free_pages map.now state }
 {
     reader::ask::free_pages(map, state)
 }
@@ -281,7 +283,7 @@ pub extern "C" fn mv_free_pages(map: &[u8], state: State) -> usize
 // How many pages are not free.
 #[unsafe(no_mangle)]
 pub extern "C" fn mv_used_pages(map: &[u8], state: State) -> usize
-    ensures* { λ r. ⌜ r ≡ used_pages map.now state ⌝ }
+    ensures { result ≡ used_pages map.now state }
 {
     reader::ask::used_pages(map, state)
 }

@@ -8,7 +8,7 @@ use state::types::{Done, Out, Search, State, Table};
 
 // Of a call that changes: table and state are those after it.
 #[repr(C)]
-#[derive(Drop)]
+#[derive(Clone, Copy)]
 pub struct Reply {
     pub code: u32,
     pub table: Table,
@@ -17,7 +17,7 @@ pub struct Reply {
 
 // The page of a number and the headers read on the way; 65535 and 0 where refused.
 #[repr(C)]
-#[derive(Drop)]
+#[derive(Clone, Copy)]
 pub struct LocateReply {
     pub code: u32,
     pub page: u16,
@@ -26,7 +26,7 @@ pub struct LocateReply {
 
 // Where a reader then stands: where it stood, if refused.
 #[repr(C)]
-#[derive(Drop)]
+#[derive(Clone, Copy)]
 pub struct SeqReply {
     pub code: u32,
     pub seq: u32,
@@ -34,7 +34,7 @@ pub struct SeqReply {
 
 // A position on offer, or the search's result at its end.
 #[repr(C)]
-#[derive(Drop)]
+#[derive(Clone, Copy)]
 pub struct SearchReply {
     pub code: u32,
     pub offer: bool,
@@ -42,7 +42,7 @@ pub struct SearchReply {
 }
 
 // A search's reply, and the search as it is then.
-#[derive(Drop)]
+#[derive(Clone, Copy)]
 pub struct SearchParts {
     pub reply: SearchReply,
     pub search: Search,

@@ -14,7 +14,7 @@ use Rattle.state.specs.declared.types.Done.TheVariants.{Done as Fine, Refused}
 use Rattle.state.specs.declared.types.Out.{Out}
 use Rattle.state.specs.Refusals.{number}
 use Rattle.state.specs.Values.{empty_table, unmounted}
-use Rattle.state.specs.World.{World, After, before, after, result, yields, promised}
+use Rattle.state.specs.World.{World, After, before, after, after_call, yields, promised}
 use Rattle.state.proofs.Numbers.{promise_same}
 use Rattle.volume.specs.Mount.{mount}
 use Rattle.inventory.specs.Inventory.{lines_of, refused_by, mounted, inventory_of}
@@ -37,7 +37,7 @@ module _ (img : List ℕ) (h : length img ≤ 65536) (r : Out) where
       let k : length img / 256 ≤ 256 = omega arith in
       let w : before img (take (length img / 256) (replicate 256 0)) t s ≡ before img (replicate (length img / 256) 0) empty_table (unmounted 1) =
       rw (et, es, take_replicate (length img / 256) 256 0 k) in
-      let g : after r img m ≡ result mount (before img (replicate (length img / 256) 0) empty_table (unmounted 1)) = promise_same mount _ r img m e ∙ ap (λ (v : World). result mount v) w in
+      let g : after r img m ≡ after_call mount (before img (replicate (length img / 256) 0) empty_table (unmounted 1)) = promise_same mount _ r img m e ∙ ap (λ (v : World). after_call mount v) w in
       record {
         answer = sym (ap (λ (a : After Done). a.answer) g);
         table = sym (ap (λ (a : After Done). a.world.table) g);

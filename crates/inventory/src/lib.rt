@@ -1,11 +1,13 @@
 // What an image holds, as the listing program prints it.
+#![tactic(auto)]
+
 ghost use Rattle.std.specs.Prelude.{◌≡◌};
 ghost use Rattle.inventory.specs.Inventory.{no_line, pages_from, pages_of, line_of, lines_of, refused_by, inventory_of};
 
 use chain::{Kind, PagePointer};
 use state::types::{Done, FileRecord, Table};
 
-#[derive(Drop)]
+#[derive(Clone, Copy)]
 pub struct FileLine {
     pub live: bool,
     pub first: u32,
@@ -15,7 +17,7 @@ pub struct FileLine {
 }
 
 // A refusal's number, or 0 and a line for each file.
-#[derive(Drop)]
+#[derive(Clone, Copy)]
 pub struct Inventory {
     pub refused: u8,
     pub lines: [FileLine; 8],

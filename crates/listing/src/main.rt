@@ -1,4 +1,6 @@
 // The listing program: an image on standard input, a line for each file that is not empty on standard output.
+#![tactic(auto)]
+
 ghost use Rattle.std.specs.Prelude.{◌≤◌};
 
 use inventory::{FileLine, Inventory};

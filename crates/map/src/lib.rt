@@ -1,5 +1,7 @@
 // The page map: a lent byte for each page. Only FREE is free, whatever else a byte may be. Every function is total: a page that
 // the map does not have is never free, and marking it changes nothing.
+#![tactic(auto)]
+
 ghost use Rattle.std.specs.Prelude.{◌≡◌, min, ◌≤◌, length, take, set};
 ghost use Rattle.map.specs.Map.{free, used, held, first_free, alloc_of, alloc_numbers, leaves, allocated, beyond, is_free, free_count, unheld, released, cleared};
 
@@ -11,7 +13,7 @@ pub const HELD: u8 = 2;
 
 pub const OUTSIDE: u8 = 3;
 
-#[derive(Drop)]
+#[derive(Clone, Copy)]
 pub enum Alloc {
     Page(usize),
     Full,

@@ -1,5 +1,7 @@
 // The log of a metadata page: batches of entries after the page's header. A batch is a count and its complement, then as many
 // entries. Every function is total: a page that the image has not has an empty log, and a store outside changes nothing.
+#![tactic(auto)]
+
 ghost use Rattle.std.specs.Prelude.{◌≡◌, true, cond, ◌&&◌, ◌*◌, ◌≤◌, ◌<◌, length};
 ghost use Rattle.page.specs.Store.{stored, ran};
 ghost use Rattle.metalog.specs.Log.{entry_size, good_pair, batch_at, entry_of, entries, area_of, log_of, end_of, end_numbers, log_end, rest_erased, fits, sound, put, no_files, add, adds, fresh, replayed, replay_of};
@@ -14,7 +16,7 @@ const PAIR_SIZE: usize = 4;
 
 const ENTRY_SIZE: usize = 8;
 
-#[derive(Drop)]
+#[derive(Clone, Copy)]
 pub struct Entry {
     pub file: u8,
     pub flags: u8,
@@ -23,7 +25,7 @@ pub struct Entry {
 }
 
 // What stands at a place of the log: its end, a batch of so many entries, or neither.
-#[derive(Drop)]
+#[derive(Clone, Copy)]
 enum Batch {
     End,
     Entries(usize),
@@ -31,14 +33,14 @@ enum Batch {
 }
 
 // Where the log ends, counted from its beginning.
-#[derive(Drop)]
+#[derive(Clone, Copy)]
 pub enum LogEnd {
     At(usize),
     Damaged,
 }
 
 // The eight files as entries say: last page, first_seq, flags.
-#[derive(Drop)]
+#[derive(Clone, Copy)]
 pub struct Files {
     pub last: [u16; 8],
     pub first: [u32; 8],
@@ -46,7 +48,7 @@ pub struct Files {
 }
 
 // The files as the log left them, and whether it reads and every entry is sound.
-#[derive(Drop)]
+#[derive(Clone, Copy)]
 pub struct Replay {
     pub ok: bool,
     pub files: Files,
@@ -315,7 +317,7 @@ fn one_if(d: bool) -> usize
 }
 
 // The bytes of up to eight entries, so many of which are there.
-#[derive(Drop)]
+#[derive(Clone, Copy)]
 struct Run {
     bytes: [u8; 64],
     n: usize,

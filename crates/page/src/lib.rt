@@ -1,5 +1,7 @@
 // The pages of an image, their headers, and the two stores. An image is a slice of bytes, page p its 256 bytes from
 // 256 p on. Every function is total: a page that the image has not is unreadable, and a store outside changes nothing.
+#![tactic(auto)]
+
 ghost use Rattle.std.specs.Prelude.{◌≡◌, ◌+◌};
 ghost use Rattle.runs.specs.Runs.{part_of};
 ghost use Rattle.page.specs.Page.{page_of, begins, pair_reads, fields, fields_of, header_of, unreadable, gives, gives_back, meta_of, header_list, header_bytes, meta_list, meta_bytes};
@@ -10,7 +12,7 @@ const DATA_MAGIC: u32 = 0x7fcb_f35d;
 const META_MAGIC: u32 = 0x1d81_bcde;
 
 #[repr(C)]
-#[derive(Drop)]
+#[derive(Clone, Copy)]
 pub struct DataHeader {
     pub seq: u32,
     pub skiplist: [u16; 9],
@@ -19,34 +21,34 @@ pub struct DataHeader {
 }
 
 // Where a header does not read, it is all 0.
-#[derive(Drop)]
+#[derive(Clone, Copy)]
 pub struct HeaderRead {
     pub ok: bool,
     pub header: DataHeader,
 }
 
 // What a step back asks of a header: its first number and its link 0. All 0 where it does not read.
-#[derive(Drop)]
+#[derive(Clone, Copy)]
 pub struct BackRead {
     pub ok: bool,
     pub seq: u32,
     pub link: u16,
 }
 
-#[derive(Drop)]
+#[derive(Clone, Copy)]
 pub struct MetaHeader {
     pub page_count: u32,
     pub seq: u32,
 }
 
-#[derive(Drop)]
+#[derive(Clone, Copy)]
 pub enum MetaRead {
     Found(MetaHeader),
     Missing,
 }
 
 // A page of the caller's image, which it refers to and does not copy.
-#[derive(Drop)]
+#[derive(Clone, Copy)]
 pub struct PageView<'a> {
     pub image: &'a [u8],
     pub page: usize,

@@ -1,6 +1,6 @@
 -- Where commit succeeds, mount of the image that it leaves succeeds and gives the same eight files. Assumes nothing.
 use Rattle.seq.specs.Seed.{seed_after}
-use Rattle.state.specs.World.{World, Outcome, ended, result}
+use Rattle.state.specs.World.{World, Outcome, ended, after_call}
 use Rattle.state.specs.Values.{settled}
 use Rattle.chain.specs.Files.{last_of}
 use Rattle.chain.specs.Steps.{at}
@@ -110,18 +110,18 @@ alike img f g a c e =
 
 module _ {D : Type 0} {N : ℕ} {w : World} {b : Base} {own : ℕ → Owner} (g : Good D N w b own) (ok : (commit w).answer ≡ Fine) where
   abbrev img' : List ℕ
-  img' = (result commit w).world.image
+  img' = (after_call commit w).world.image
 
   C : Commits D N w (commit w)
   C = commit_keeps g
 
-  abbrev g' : Good D N (result commit w).world (commit_keeps g).known.base (commit_keeps g).known.own
+  abbrev g' : Good D N (after_call commit w).world (commit_keeps g).known.base (commit_keeps g).known.own
   g' = (commit_keeps g).known.good
 
   abbrev b' : Base
   b' = (commit_keeps g).known.base
 
-  same_table : (result commit w).world.table ≡ w.table
+  same_table : (after_call commit w).world.table ≡ w.table
   same_table = (commit_keeps g).table
 
   -- what is committed is the table

@@ -1,6 +1,6 @@
 -- In every world that calls reach from a format the invariant holds with the link rule, so that it counts as mounted. Assumes nothing.
 use Rattle.state.specs.declared.types.Done.TheVariants.{Done as Fine}
-use Rattle.state.specs.World.{World, Outcome, ended, result}
+use Rattle.state.specs.World.{World, Outcome, ended, after_call}
 use Rattle.state.specs.declared.types.Table.{Table}
 use Rattle.state.specs.declared.types.State.{State}
 use Rattle.seq.specs.Seed.{seed_after}
@@ -53,12 +53,12 @@ formatted_held w bs e =
     let z = sizes_say (length w.image) (length w.map) e in
     known_held (format_known (Unit {0}) w bs (length w.map) (seed_after w.state.seed) refl z.2 z.0 z.1)
 
-starts_held : (w : World) → Bytes w.image → (VolumeFormat.format w).answer ≡ Fine → Held (result VolumeFormat.format w).world
+starts_held : (w : World) → Bytes w.image → (VolumeFormat.format w).answer ≡ Fine → Held (after_call VolumeFormat.format w).world
 unfolding VolumeFormat.format
 starts_held w bs =
     cond_by (λ (o : Outcome Done). o.answer ≡ Fine → Held (ended w o).world) (sizes (length w.image) (length w.map)) _ _ (λ e h. formatted_held w bs e) (λ e h. clash cc)
 
-format_held : (w : World) → Held w → Held (result VolumeFormat.format w).world
+format_held : (w : World) → Held w → Held (after_call VolumeFormat.format w).world
 unfolding VolumeFormat.format
 format_held w k =
     cond_by (λ (o : Outcome Done). Held (ended w o).world) (sizes (length w.image) (length w.map)) _ _ (λ e. formatted_held w k.good.sees.bytes e) (λ e. k)
@@ -77,7 +77,7 @@ module _ {w : World} (k : Held w) (m : List ℕ) (t : Table) (s : State) (same :
           let a = mounted_one k.good.inv.mounted (subst (λ (n : ℕ). Mounted n (view w.image) b) same M) in
           subst (λ (c : ℕ). ChainOf w.image c (b.tab i)) a.pc (subst (ChainOf w.image k.base.pc) (a.tab i) ((k.good.rules tt).base i))
 
-  pub boot_held : Held (result VolumeMount.mount (powered w m t s)).world
+  pub boot_held : Held (after_call VolumeMount.mount (powered w m t s)).world
   boot_held = subst (λ (o : Outcome Done). Held (ended (powered w m t s) o).world) (sym (boots_as k.good m t s same)) (known_held (boot_known (Unit {0})))
 
 -- ---- EVERY CALL

@@ -1,6 +1,6 @@
 -- The ledger tells the bytes after flags, rename, truncate, commit, mount and format. Assumes nothing.
 use Rattle.seq.specs.Ids.{none}
-use Rattle.state.specs.World.{World, ended, result}
+use Rattle.state.specs.World.{World, ended, after_call}
 use Rattle.chain.specs.Files.{last_of}
 use Rattle.owners.specs.Store as st
 use Rattle.transact.specs.Rename as TransactRename
@@ -157,9 +157,9 @@ commit_notes {N} {w} k g t = by (commit w).answer refl
         }
       where
         img' : List ℕ
-        img' = (result commit w).world.image
+        img' = (after_call commit w).world.image
 
-        text : (i : ℕ) → i < 8 → Text (result commit w).world.image (commit_keeps k.good).known.base.pc (as_file (rec_at w.table i)) (g.files i)
+        text : (i : ℕ) → i < 8 → Text (after_call commit w).world.image (commit_keeps k.good).known.base.pc (as_file (rec_at w.table i)) (g.files i)
         text i h =
             subst (λ (f : File). Text img' (commit_keeps k.good).known.base.pc f (g.files i)) (sym (tab_is k.good e i))
             (frame_back w.image img' (g.files i) ((commit_keeps k.good).known.good.inv.mounted.files i) (λ x o. page_same k.good e x i o)

@@ -12,7 +12,7 @@ use Rattle.state.specs.declared.types.State.{State}
 use Rattle.state.specs.Refusals.{on_done}
 use Rattle.state.specs.Checks.{checks}
 use Rattle.state.specs.Values.{file_at}
-use Rattle.state.specs.World.{World, result}
+use Rattle.state.specs.World.{World, after_call}
 use Rattle.volume.specs.Mount as VolumeMount
 use Rattle.transact.specs.Commit.{commit}
 use Rattle.reader.specs.declared.Located.TheVariants.{Refused}
@@ -56,17 +56,17 @@ format_either (boots {w = w} m t s same r) =
 
 module _ {w : World} (k : Held w) (ok : (commit w).answer ≡ Fine) (m : List ℕ) (t : Table) (s : State) (same : length m ≡ length w.map) where
   abbrev v : World
-  v = (result VolumeMount.mount (afresh w m t s)).world
+  v = (after_call VolumeMount.mount (afresh w m t s)).world
 
-  later : Held (result commit w).world
+  later : Held (after_call commit w).world
   unfolding step
   later = step_held calls.commit w k
 
-  same' : length m ≡ length (result commit w).world.map
+  same' : length m ≡ length (after_call commit w).world.map
   same' = omega (arith, k.good.sees.size, later.good.sees.size, ran_length w.image (commit w).stores)
 
   pub commit_reads : (r : Reader) (out : List ℕ) → r.file < 8 → 0 < length out → (file_at w.table r.file).first_seq ≤ r.seq
-      → r.seq + length out ≤ (file_at w.table r.file).last_seq → Reads w (result VolumeMount.mount (afresh w m t s)).world r out
+      → r.seq + length out ≤ (file_at w.table r.file).last_seq → Reads w (after_call VolumeMount.mount (afresh w m t s)).world r out
   commit_reads r out i8 some low high =
       let a = (mounted_again k.good ok m t s same).files r.file i8 in
       let R = held_reads (boot_held later m t s same') (boot_idle later.good m t s same') r out i8 some (omega (arith, a.first_seq_lem)) (omega (arith, a.last_seq_lem)) in

@@ -1,6 +1,6 @@
 -- Every world that calls reach is sound: its image is of bytes, and while mounted the invariant holds. Assumes nothing.
 use Rattle.state.specs.declared.types.Done.TheVariants.{Done as Fine}
-use Rattle.state.specs.World.{World, Outcome, ended, result}
+use Rattle.state.specs.World.{World, Outcome, ended, after_call}
 use Rattle.seq.specs.Seed.{seed_after}
 use Rattle.volume.specs.Format as VolumeFormat
 use Rattle.volume.specs.Mount as VolumeMount
@@ -61,7 +61,7 @@ kept_sound w w' s f g = by (is_mounted w.state) refl
 
 -- ---- FORMAT and MOUNT, of any world of bytes
 
-pub format_sound : (w : World) → Bytes w.image → Sound w → Sound (result VolumeFormat.format w).world
+pub format_sound : (w : World) → Bytes w.image → Sound w → Sound (after_call VolumeFormat.format w).world
 unfolding VolumeFormat.format
 format_sound w bs s =
     cond_by (λ (o : Outcome Done). Sound (ended w o).world) (sizes (length w.image) (length w.map)) _ _
@@ -69,7 +69,7 @@ format_sound w bs s =
     (λ e. s)
 
 -- where it succeeds nothing need be known before
-pub formatted_sound : (w : World) → Bytes w.image → (VolumeFormat.format w).answer ≡ Fine → Sound (result VolumeFormat.format w).world
+pub formatted_sound : (w : World) → Bytes w.image → (VolumeFormat.format w).answer ≡ Fine → Sound (after_call VolumeFormat.format w).world
 unfolding VolumeFormat.format
 formatted_sound w bs =
     cond_by (λ (o : Outcome Done). o.answer ≡ Fine → Sound (ended w o).world) (sizes (length w.image) (length w.map)) _ _
@@ -93,12 +93,12 @@ best_sound w bs e = by (VolumeMount.mount_from w.image (length w.map) (scan w.im
     by bad h = record { bytes = bs; mounted = λ k. clash (cc (unmounted_is w.state.seed)); else = inr (unmounted_seed w.state.seed) }
     by (good x) h = let z = sizes_say (length w.image) (length w.map) e in known_sound (mount_known ⊥ w bs (length w.map) (seed_after w.state.seed) x (λ d. absurd d) z.2 z.0 z.1 h)
 
-pub mount_sound : (w : World) → Sound w → Sound (result VolumeMount.mount w).world
+pub mount_sound : (w : World) → Sound w → Sound (after_call VolumeMount.mount w).world
 unfolding VolumeMount.mount VolumeMount.mount_with
 mount_sound w s =
     cond_by (λ (o : Outcome Done). Sound (ended w o).world) (sizes (length w.image) (length w.map)) _ _ (λ e. best_sound w s.bytes e) (λ e. s)
 
-pub mounted_sound : (w : World) → Bytes w.image → (VolumeMount.mount w).answer ≡ Fine → Sound (result VolumeMount.mount w).world
+pub mounted_sound : (w : World) → Bytes w.image → (VolumeMount.mount w).answer ≡ Fine → Sound (after_call VolumeMount.mount w).world
 unfolding VolumeMount.mount VolumeMount.mount_with
 mounted_sound w bs =
     cond_by (λ (o : Outcome Done). o.answer ≡ Fine → Sound (ended w o).world) (sizes (length w.image) (length w.map)) _ _ (λ e h. best_sound w bs e) (λ e h. clash cc)

@@ -2,7 +2,7 @@
 use Rattle.seq.specs.Ids.{none}
 use Rattle.seq.specs.Seed.{seed_after}
 use Rattle.state.specs.Values.{settled}
-use Rattle.state.specs.World.{World, Outcome, ended, result, kept}
+use Rattle.state.specs.World.{World, Outcome, ended, after_call, kept}
 use Rattle.state.specs.declared.types.Table.{Table}
 use Rattle.state.specs.declared.types.State.{State}
 use Rattle.chain.specs.Files.{last_of}
@@ -168,7 +168,7 @@ format_tells w bs e =
       whose = λ on. clash cc;
     }
 
-starts_tells : (w : World) → Bytes w.image → (VolumeFormat.format w).answer ≡ Fine → Tells (length w.map) (result VolumeFormat.format w).world nothing
+starts_tells : (w : World) → Bytes w.image → (VolumeFormat.format w).answer ≡ Fine → Tells (length w.map) (after_call VolumeFormat.format w).world nothing
 unfolding VolumeFormat.format
 starts_tells w bs =
     cond_by (λ (o : Outcome Done). o.answer ≡ Fine → Tells (length w.map) (ended w o).world nothing) (sizes (length w.image) (length w.map)) _ _ (λ e h. format_tells w bs e) (λ e h. clash cc)
@@ -186,7 +186,7 @@ format_notes w bs g t = cond_by (Notes (length w.map) w g nothing) (sizes (lengt
 
 -- ---- MOUNT, with any map of that length, table and state
 
-boot_tells : {w : World} (k : Held w) (g : Ledger) → Tells (length w.map) w g → (m : List ℕ) (t : Table) (s : State) → length m ≡ length w.map → Tells (length m) (result VolumeMount.mount (powered w m t s)).world (reverted g)
+boot_tells : {w : World} (k : Held w) (g : Ledger) → Tells (length w.map) w g → (m : List ℕ) (t : Table) (s : State) → length m ≡ length w.map → Tells (length m) (after_call VolumeMount.mount (powered w m t s)).world (reverted g)
 unfolding settled no_writer
 boot_tells {w} k g T m t s same = subst (λ (o : Outcome Done). Tells (length m) (ended (powered w m t s) o).world (reverted g)) (sym (boots_as k.good m t s same)) tells
   where
@@ -209,7 +209,7 @@ boot_tells {w} k g T m t s same = subst (λ (o : Outcome Done). Tells (length m)
 
 mount_notes : {w : World} (k : Held w) (g : Ledger) → Tells (length w.map) w g → Notes (length w.map) w g (reverted g) (VolumeMount.mount w)
 mount_notes {w} k g t =
-    subst (λ (d : Done). Tells (length w.map) (result VolumeMount.mount w).world (on_done d (λ why. g) (reverted g))) (sym (boot_fine k.good w.map w.table w.state refl))
+    subst (λ (d : Done). Tells (length w.map) (after_call VolumeMount.mount w).world (on_done d (λ why. g) (reverted g))) (sym (boot_fine k.good w.map w.table w.state refl))
     (boot_tells k g t w.map w.table w.state refl)
 
 -- ---- EVERY CALL
@@ -283,7 +283,7 @@ written_holds (goes {w = w} {g = g} c r) =
 written_holds (boots {w = w} {g = g} m t s same r) =
     let p = written_holds r in
     let h = boot_held p.held m t s same in
-    let v = (result VolumeMount.mount (powered w m t s)).world in
+    let v = (after_call VolumeMount.mount (powered w m t s)).world in
     let z : length v.image ≡ length w.image = ran_length w.image (VolumeMount.mount (powered w m t s)).stores in
     let n : length m ≡ length v.map = omega (arith, p.held.good.sees.size, h.good.sees.size) in
     record { held = h; tells = subst (λ (k : ℕ). Tells k v (reverted g)) n (boot_tells p.held g p.tells m t s same) }

@@ -10,7 +10,7 @@ use Rattle.state.specs.declared.types.State.{State}
 use Rattle.state.specs.declared.types.Writer as StateWriter
 use Rattle.state.specs.declared.types.Done.TheVariants.{Done as Fine}
 use Rattle.state.specs.Values.{file_at}
-use Rattle.state.specs.World.{World, result}
+use Rattle.state.specs.World.{World, after_call}
 use Rattle.map.specs.Map as map
 use Rattle.writer.specs.Staging.{previous_of}
 use Rattle.writer.specs.Finish.{pages, back_from}
@@ -97,12 +97,12 @@ pub record SameFile (w v : World) (i : ℕ) : Type 0 where
 
 -- the image that commit leaves, with any map, table and state
 abbrev pub afresh : World → List ℕ → Table → State → World
-afresh w m t s = record { image = (result commit w).world.image; map = m; table = t; state = s }
+afresh w m t s = record { image = (after_call commit w).world.image; map = m; table = t; state = s }
 
 -- its mount succeeds and gives the same eight files
 pub record Again (w : World) (m : List ℕ) (t : Table) (s : State) : Type 0 where
-  pub mounts : (result mount (afresh w m t s)).answer ≡ Fine
-  pub files : (i : ℕ) → i < 8 → SameFile w (result mount (afresh w m t s)).world i
+  pub mounts : (after_call mount (afresh w m t s)).answer ≡ Fine
+  pub files : (i : ℕ) → i < 8 → SameFile w (after_call mount (afresh w m t s)).world i
 
 -- ---- demand 3: locating and reading live numbers
 

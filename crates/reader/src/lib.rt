@@ -1,4 +1,6 @@
 // Reading: a reader is a file and a number, and reads what the file holds at the call.
+#![tactic(auto)]
+
 ghost use Rattle.std.specs.Prelude.{◌≡◌};
 ghost use Rattle.state.specs.World.{before};
 ghost use Rattle.reader.specs.Locate.{located_numbers, locate};
@@ -11,28 +13,28 @@ pub mod ask;
 mod pages;
 mod reading;
 
-#[derive(Drop)]
+#[derive(Clone, Copy)]
 pub struct Reader {
     pub file: u8,
     pub seq: u32,
 }
 
 // The page of a number, and the headers read on the way.
-#[derive(Drop)]
+#[derive(Clone, Copy)]
 pub enum Located {
     At(u16, u32),
     Refused(Refusal),
 }
 
 // Where a reader then stands.
-#[derive(Drop)]
+#[derive(Clone, Copy)]
 pub enum Skipped {
     To(u32),
     Refused(Refusal),
 }
 
 // A read's answer, and where the reader then stands.
-#[derive(Drop)]
+#[derive(Clone, Copy)]
 pub struct ReadOut {
     pub answer: Done,
     pub reader: Reader,

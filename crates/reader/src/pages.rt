@@ -12,7 +12,7 @@ use state::types::{FileRecord, Refusal};
 
 // An opened page, for a number that it holds: where the number's byte stands in the payload, and how many bytes there are from
 // it up to the end. All 0 where no page opens.
-#[derive(Drop)]
+#[derive(Clone, Copy)]
 pub struct Opening {
     pub ok: bool,
     pub page: u16,

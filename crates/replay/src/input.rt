@@ -1,7 +1,7 @@
 // Lines of the standard input, which is read in chunks.
 
 // The chunk's bytes from at to end are not used yet.
-#[derive(Drop)]
+#[derive(Clone, Copy)]
 pub struct Feed {
     pub at: usize,
     pub end: usize,
@@ -9,7 +9,7 @@ pub struct Feed {
 }
 
 // A line, or as much of it as was gathered. One that is too long fills the buffer.
-#[derive(Drop)]
+#[derive(Clone, Copy)]
 pub struct Got {
     pub feed: Feed,
     pub length: usize,

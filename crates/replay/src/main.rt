@@ -1,4 +1,6 @@
 // Answers a script of calls, line by line: the replay protocol over the proved calls.
+#![tactic(auto)]
+
 mod input;
 
 ghost use Rattle.std.specs.Prelude.{◌≡◌, length};
@@ -7,7 +9,7 @@ use answers::world::World;
 use input::Feed;
 
 // What goes from line to line: the world, where the input stands, and how much of the output is not written yet.
-#[derive(Drop)]
+#[derive(Clone, Copy)]
 struct Run {
     world: World,
     feed: Feed,

@@ -1,5 +1,7 @@
 // Runs of bytes: filled, copied, looked through, and read as little-endian fields. Every function is total: a byte past the
 // end counts as 0, and a run that would pass the end is not stored.
+#![tactic(auto)]
+
 ghost use Rattle.std.specs.Prelude.{◌≡◌, ◌<◌, length, get_or, replicate};
 ghost use Rattle.runs.specs.Runs.{le16, le32, part_of, placed, all_erased};
 

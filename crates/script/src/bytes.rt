@@ -3,14 +3,14 @@ ghost use Rattle.std.specs.Prelude.{◌≡◌, true, ◌/◌, ◌%◌, ◌≤◌
 ghost use Rattle.runs.specs.Runs.{placed};
 ghost use Rattle.script.specs.Bytes.{more, zero_in_front, number_of, hex_value, all_hex, bytes_of, run_of, decoded, ramp, adler};
 
-#[derive(Drop)]
+#[derive(Clone, Copy)]
 pub enum Number {
     Is(u32),
     Bad,
 }
 
 // How many bytes a word stands for, or that it is none of the protocol.
-#[derive(Drop)]
+#[derive(Clone, Copy)]
 pub enum Run {
     Bytes(usize),
     Odd,

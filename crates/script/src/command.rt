@@ -7,7 +7,7 @@ use crate::bytes::{Number, Run};
 use crate::{bytes, text};
 
 // The buffers, the lent lengths, and a fresh table and state.
-#[derive(Drop)]
+#[derive(Clone, Copy)]
 pub enum Setup {
     Lend(u32, u32),
     New(u32),
@@ -16,27 +16,27 @@ pub enum Setup {
     PokeMap(u32, usize),
 }
 
-#[derive(Drop)]
+#[derive(Clone, Copy)]
 pub enum Volume {
     Format,
     Mount,
 }
 
-#[derive(Drop)]
+#[derive(Clone, Copy)]
 pub enum Reading {
     Locate(u8, u32),
     Read(u8, u32, usize),
     Skip(u8, u32, usize),
 }
 
-#[derive(Drop)]
+#[derive(Clone, Copy)]
 pub enum Searching {
     Search(u8),
     Left,
     Right,
 }
 
-#[derive(Drop)]
+#[derive(Clone, Copy)]
 pub enum Writing {
     Open(u8),
     Write(usize),
@@ -45,7 +45,7 @@ pub enum Writing {
     Discard,
 }
 
-#[derive(Drop)]
+#[derive(Clone, Copy)]
 pub enum Files {
     Truncate(u8, usize),
     Rename(u8, u8),
@@ -53,7 +53,7 @@ pub enum Files {
     Commit,
 }
 
-#[derive(Drop)]
+#[derive(Clone, Copy)]
 pub enum Helper {
     Zeros(u32, u32),
     Index(u32, u32),
@@ -61,7 +61,7 @@ pub enum Helper {
     Seed(u32),
 }
 
-#[derive(Drop)]
+#[derive(Clone, Copy)]
 pub enum Show {
     State,
     Table,
@@ -70,7 +70,7 @@ pub enum Show {
     Image,
 }
 
-#[derive(Drop)]
+#[derive(Clone, Copy)]
 pub enum Command {
     // an empty line, or one that starts with #
     Nothing,
@@ -86,7 +86,7 @@ pub enum Command {
 }
 
 // The numbers behind a command's name.
-#[derive(Drop)]
+#[derive(Clone, Copy)]
 enum Numbers {
     None,
     One(u32),
@@ -96,7 +96,7 @@ enum Numbers {
 }
 
 // A number, and where the next one stands.
-#[derive(Drop)]
+#[derive(Clone, Copy)]
 enum Step {
     Bad,
     Last(u32),

@@ -7,7 +7,7 @@ use crate::text;
 use state::types::{Done, Refusal};
 
 // Where the next part of a form is put, and where it begins.
-#[derive(Drop)]
+#[derive(Clone, Copy)]
 struct Place {
     at: usize,
     from: usize,

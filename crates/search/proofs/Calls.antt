@@ -18,7 +18,7 @@ use Rattle.state.specs.declared.types.Done.{Done}
 use Rattle.state.specs.declared.types.Done.TheVariants.{Done as Fine, Refused as Barred}
 use Rattle.state.specs.Values.{file_at, is_empty, in_shape, no_search, with_search}
 use Rattle.state.specs.Checks.{checks}
-use Rattle.state.specs.World.{World, Outcome, kept, result, ended as finished}
+use Rattle.state.specs.World.{World, Outcome, kept, after_call, ended as finished}
 use Rattle.search.specs.declared.Answer.{Answer}
 use Rattle.search.specs.declared.Answer.TheVariants.{Offer as Offers, End, Refused}
 use Rattle.search.specs.declared.SearchOut.{SearchOut}
@@ -101,13 +101,13 @@ module _ (w : World) (i : ℕ) where
 
   -- a start that the checks refuse leaves the search
   pub start_refused : (r : SearchOut) (why : Refusal) → Checks ≡ Barred why → r ≡ record { answer = Refused why; search = w.state.search }
-      → after_search r w.image w.map w.table w.state ≡ result (λ w. start w i) w
+      → after_search r w.image w.map w.table w.state ≡ after_call (λ w. start w i) w
   unfolding start with_search
   start_refused r why e u = rw (u, e)
 
   -- else it is what the file's record gives
   pub start_replied : (r : SearchOut) → Checks ≡ Fine → r ≡ begun w.state.search w.state.page_count (read_at w.image) i (file_at w.table i)
-      → after_search r w.image w.map w.table w.state ≡ result (λ w. start w i) w
+      → after_search r w.image w.map w.table w.state ≡ after_call (λ w. start w i) w
   unfolding start
   start_replied r e u = rw (u, e) (ap (finished w) (made_started w i (file_at w.table i)))
 
@@ -116,13 +116,13 @@ module _ (w : World) (i : ℕ) where
 module _ (w : World) (f : Search → Stand) where
   -- an answer that the checks refuse leaves the search
   pub answer_refused : (r : SearchOut) (why : Refusal) → Checks w 0 ≡ Barred why → r ≡ record { answer = Refused why; search = w.state.search }
-      → after_search r w.image w.map w.table w.state ≡ result (λ w. answered w f) w
+      → after_search r w.image w.map w.table w.state ≡ after_call (λ w. answered w f) w
   unfolding answered with_search
   answer_refused r why e u = rw (u, e)
 
   -- so does one where no position is on offer
   pub answer_none : (r : SearchOut) → Checks w 0 ≡ Fine → w.state.search.active ≡ false → r ≡ record { answer = Refused NoSearch; search = w.state.search }
-      → after_search r w.image w.map w.table w.state ≡ result (λ w. answered w f) w
+      → after_search r w.image w.map w.table w.state ≡ after_call (λ w. answered w f) w
   unfolding answered with_search
   answer_none r e a u = rw (u, e, a)
 
@@ -133,13 +133,13 @@ module _ (w : World) (f : Search → Stand) where
   -- else it is what the hunt gives from where the answer puts the search
   pub answer_replied : (r : SearchOut) (s : Stand) → Checks w 0 ≡ Fine → w.state.search.active ≡ true → s ≡ f w.state.search
       → r ≡ replied w.state.search s (hunt w.state.page_count (read_at w.image) s.left s.right s.links)
-      → after_search r w.image w.map w.table w.state ≡ result (λ w. answered w f) w
+      → after_search r w.image w.map w.table w.state ≡ after_call (λ w. answered w f) w
   unfolding sought
   answer_replied r s e a g u =
       let q = w.state.search in
       rw (u, g) (ap (finished w) (made_sought w (f q) (hunt w.state.page_count (read_at w.image) (f q).left (f q).right (f q).links) ∙ sym (answered_is e a)))
 
 -- which way the answer puts it says which of the two calls it is
-pub turned : (b : Bool) (w : World) → result (λ w. answered w (cond b right_of left_of)) w ≡ result (turn b) w
+pub turned : (b : Bool) (w : World) → after_call (λ w. answered w (cond b right_of left_of)) w ≡ after_call (turn b) w
 turned true w = refl
 turned false w = refl

@@ -7,7 +7,7 @@ use lib.Dec.{eqb}
 use lib.ListN.{get_or}
 use Rattle.state.specs.declared.types.Table.{Table}
 use Rattle.state.specs.declared.types.State.{State}
-use Rattle.state.specs.World.{World, Outcome, result}
+use Rattle.state.specs.World.{World, Outcome, after_call}
 use Rattle.state.proofs.Numbers.{by_code, by_number, read_back, outcome_same}
 use Rattle.search.specs.declared.Answer.{Answer}
 use Rattle.search.specs.declared.Answer.TheVariants.{Offer as Offers, End, Refused}
@@ -27,5 +27,5 @@ pub answer_same : (a b : Answer) → answer_numbers a ≡ answer_numbers b → a
 answer_same = read_back answer_numbers answer_in answer_back
 
 pub search_same : (call : World → Outcome Answer) (w : World) (r : SearchOut) (i m : List ℕ) (t : Table) (s : State)
-    → yields r i m t s ≡ promised call w → after_search r i m t s ≡ result call w
-search_same call w r i m t s e = outcome_same answer_numbers answer_same (after_search r i m t s) (result call w) e
+    → yields r i m t s ≡ promised call w → after_search r i m t s ≡ after_call call w
+search_same call w r i m t s e = outcome_same answer_numbers answer_same (after_search r i m t s) (after_call call w) e

@@ -13,7 +13,7 @@ use Rattle.state.specs.declared.types.State.{State}
 use Rattle.state.specs.declared.types.Table.{Table}
 use Rattle.state.specs.declared.types.Refusal.TheVariants.{Damaged}
 use Rattle.state.specs.Values.{no_search, with_search, is_empty, in_shape}
-use Rattle.state.specs.World.{World, Outcome, After, result, before, in_numbers}
+use Rattle.state.specs.World.{World, Outcome, After, after_call, before, in_numbers}
 use Rattle.search.specs.declared.Answer.{Answer}
 use Rattle.search.specs.declared.Answer.TheVariants.{Offer as Offers, End, Refused}
 use Rattle.search.specs.declared.SearchOut.{SearchOut}
@@ -38,7 +38,7 @@ abbrev pub yields : SearchOut → List ℕ → List ℕ → Table → State → 
 yields r i m t s = in_numbers answer_numbers (after_search r i m t s)
 
 abbrev pub promised : (World → Outcome Answer) → World → After (List ℕ)
-promised call w = in_numbers answer_numbers (result call w)
+promised call w = in_numbers answer_numbers (after_call call w)
 
 -- ---- where a hunt stands
 

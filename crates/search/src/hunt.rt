@@ -8,7 +8,7 @@ ghost use Rattle.search.specs.Told.{no_offer, offer_on, told, Says, seen_at, aim
 use page::DataHeader;
 
 // A position: its page's seq and links, the record's start, and Rust's curr_high.
-#[derive(Drop)]
+#[derive(Clone, Copy)]
 pub struct Offer {
     pub low: u32,
     pub links: [u16; 9],
@@ -16,7 +16,7 @@ pub struct Offer {
     pub high: u32,
 }
 
-#[derive(Drop)]
+#[derive(Clone, Copy)]
 pub enum Kind {
     Offered,
     Ended,
@@ -24,7 +24,7 @@ pub enum Kind {
 }
 
 // Where the hunt stands; left and offer count only where it is an offer.
-#[derive(Drop)]
+#[derive(Clone, Copy)]
 pub struct Hunted {
     pub kind: Kind,
     pub left: u32,
@@ -32,7 +32,7 @@ pub struct Hunted {
 }
 
 // What a page on the way says.
-#[derive(Drop)]
+#[derive(Clone, Copy)]
 pub enum Seen {
     Hit,
     TooLeft,
@@ -40,14 +40,14 @@ pub enum Seen {
     Wrong,
 }
 
-#[derive(Drop)]
+#[derive(Clone, Copy)]
 pub struct Look {
     pub seen: Seen,
     pub header: DataHeader,
 }
 
 // A level's page and number, where it is tried.
-#[derive(Drop)]
+#[derive(Clone, Copy)]
 pub enum Aim {
     At { id: u16, target: u32 },
     Past,

@@ -1,11 +1,13 @@
 // Search for a record's start.
+#![tactic(auto)]
+
 use state::types::{Refusal, Search};
 
 mod hunt;
 pub mod search;
 
 // A position on offer, the result at a false answer, or a refusal.
-#[derive(Drop)]
+#[derive(Clone, Copy)]
 pub enum Answer {
     Offer(u32),
     End(u32),
@@ -13,7 +15,7 @@ pub enum Answer {
 }
 
 // What a call hands back: its answer, and the search as it is then. Nothing else changes.
-#[derive(Drop)]
+#[derive(Clone, Copy)]
 pub struct SearchOut {
     pub answer: Answer,
     pub search: Search,

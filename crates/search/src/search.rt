@@ -12,7 +12,7 @@ use crate::{Answer, SearchOut};
 use state::types::{Done, FileRecord, Refusal, Search, State, Table};
 
 // Where a search stands before it seeks.
-#[derive(Drop)]
+#[derive(Clone, Copy)]
 pub struct Stand {
     pub file: u8,
     pub left: u32,

@@ -1,6 +1,6 @@
--- The checked rows of document 01 that are marked P: one list, one claim. Assumes nothing.
-use Rattle.std.specs.Prelude.{◌≡◌, refl, List, [], ◌∷◌, map, ℕ}
-use Rattle.seq.specs.Seq.{Reply, number, index, below, span, zeros_says, index_says, jump_says}
+-- The checked rows of document 01 that are marked P: one list; `rows_hold` of proofs/Rows is its one claim. Assumes nothing.
+use Rattle.std.specs.Prelude.{List, [], ◌∷◌, ℕ}
+use Rattle.seq.specs.Seq.{Reply, zeros_says, index_says, jump_says}
 
 -- what is asked, of which two numbers, and the number to be number
 pub record Row : Type 0 where
@@ -9,11 +9,10 @@ pub record Row : Type 0 where
   pub right : ℕ
   pub gives : ℕ
 
-row : (ℕ → ℕ → Reply) → ℕ → ℕ → ℕ → Row
+abbrev row : (ℕ → ℕ → Reply) → ℕ → ℕ → ℕ → Row
 row f a b n = record { says = f; left = a; right = b; gives = n }
 
-pub rows : List Row
-unfolding row
+unfoldable pub rows : List Row
 rows =
     row zeros_says 0 1 32
     ∷ row zeros_says 1 2 0
@@ -29,7 +28,3 @@ rows =
     ∷ row jump_says 2016 4 0
     ∷ row jump_says 1 8 0
     ∷ []
-
-pub rows_hold : map (λ (r : Row). r.says r.left r.right) rows ≡ map (λ (r : Row). number r.gives) rows
-unfolding rows index span below
-rows_hold = refl

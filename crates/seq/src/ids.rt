@@ -5,19 +5,19 @@ ghost use Rattle.seq.specs.Ids.{none, page_of, raw_of, option_of};
 // The raw id that means none.
 pub const NONE: u16 = 65535;
 
-#[derive(Drop)]
+#[derive(Clone, Copy)]
 pub struct PageID {
     pub raw: u16,
 }
 
 // A page or none, as two bytes hold it.
-#[derive(Drop)]
+#[derive(Clone, Copy)]
 pub struct OptionPageID {
     pub raw: u16,
 }
 
 // Rust's Option<PageID>.
-#[derive(Drop)]
+#[derive(Clone, Copy)]
 pub enum PageOption {
     Some(PageID),
     None,

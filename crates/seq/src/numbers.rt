@@ -2,7 +2,7 @@
 ghost use Rattle.std.specs.Prelude.{◌≡◌, min, ◌-◌, ◌<◌};
 ghost use Rattle.seq.specs.Seq.{TopBit, zeros, level, zeros_says, index_says, jump_says, add_says, sub_says, reply};
 
-#[derive(Drop)]
+#[derive(Clone, Copy)]
 pub enum Answer {
     Number(u32),
     Range,

@@ -16,7 +16,7 @@ use Rattle.state.specs.declared.types.Asked.TheVariants.{Number, Refused as Unas
 use Rattle.state.specs.declared.types.Whether.{Whether}
 use Rattle.state.specs.declared.types.Whether.TheVariants.{Yes, No, Refused as Untold}
 use Rattle.state.specs.Refusals.{number, numbers, asked_numbers, whether_numbers}
-use Rattle.state.specs.World.{World, Outcome, After, result, after, in_numbers, yields, promised}
+use Rattle.state.specs.World.{World, Outcome, After, after_call, after, in_numbers, yields, promised}
 
 -- ---- reading back
 
@@ -89,5 +89,5 @@ outcome_same {A} f same x y e =
     ap (λ (z : A). record { answer = z; world = x.world }) a ∙ ap (λ (z : World). record { answer = y.answer; world = z }) w
 
 -- a promise kept in numbers is kept
-pub promise_same : (call : World → Outcome Done) (w : World) (r : Out) (i m : List ℕ) → yields r i m ≡ promised call w → after r i m ≡ result call w
-promise_same call w r i m e = outcome_same numbers numbers_same (after r i m) (result call w) e
+pub promise_same : (call : World → Outcome Done) (w : World) (r : Out) (i m : List ℕ) → yields r i m ≡ promised call w → after r i m ≡ after_call call w
+promise_same call w r i m e = outcome_same numbers numbers_same (after r i m) (after_call call w) e

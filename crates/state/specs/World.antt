@@ -34,8 +34,8 @@ abbrev pub ended : {A : Type 0} → World → Outcome A → After A
 ended w o = record { answer = o.answer; world = record { image = ran w.image o.stores; map = o.map; table = o.table; state = o.state } }
 
 -- a call, by its definition, on a world
-abbrev pub result : {A : Type 0} → (World → Outcome A) → World → After A
-result call w = ended w (call w)
+abbrev pub after_call : {A : Type 0} → (World → Outcome A) → World → After A
+after_call call w = ended w (call w)
 
 -- a world with an answer and nothing changed
 abbrev pub kept : {A : Type 0} → World → A → Outcome A
@@ -69,4 +69,4 @@ yields r i m = in_numbers numbers (after r i m)
 
 -- what its definition gives
 abbrev pub promised : (World → Outcome Done) → World → After (List ℕ)
-promised call w = in_numbers numbers (result call w)
+promised call w = in_numbers numbers (after_call call w)

@@ -3,7 +3,7 @@ use page::DataHeader;
 
 // Rust's FileState: a file is empty exactly if last_page is none (65535).
 #[repr(C)]
-#[derive(Drop)]
+#[derive(Clone, Copy)]
 pub struct FileRecord {
     pub dirty: bool,
     pub last_page: u16,
@@ -14,14 +14,14 @@ pub struct FileRecord {
 }
 
 #[repr(C)]
-#[derive(Drop)]
+#[derive(Clone, Copy)]
 pub struct Table {
     pub files: [FileRecord; 8],
 }
 
 // Rust's FileWriter. Where no page is staged, seq and previous are those of the next page.
 #[repr(C)]
-#[derive(Drop)]
+#[derive(Clone, Copy)]
 pub struct Writer {
     pub active: bool,
     pub file: u8,
@@ -47,7 +47,7 @@ pub struct Writer {
 
 // Rust's FileSearcher while a position is on offer: its page starts at low and has low_links, the record starts at mid.
 #[repr(C)]
-#[derive(Drop)]
+#[derive(Clone, Copy)]
 pub struct Search {
     pub active: bool,
     pub file: u8,
@@ -62,7 +62,7 @@ pub struct Search {
 }
 
 #[repr(C)]
-#[derive(Drop)]
+#[derive(Clone, Copy)]
 pub struct State {
     pub mounted: bool,
     // the pages of the image
@@ -77,7 +77,7 @@ pub struct State {
     pub search: Search,
 }
 
-#[derive(Drop)]
+#[derive(Clone, Copy)]
 pub enum Refusal {
     BadSize,
     NotMounted,
@@ -94,21 +94,21 @@ pub enum Refusal {
 }
 
 // The answer of a call that gives no value, and of the shared checks.
-#[derive(Drop)]
+#[derive(Clone, Copy)]
 pub enum Done {
     Done,
     Refused(Refusal),
 }
 
 // The answer of a small question that asks for a number.
-#[derive(Drop)]
+#[derive(Clone, Copy)]
 pub enum Asked {
     Number(u64),
     Refused(Refusal),
 }
 
 // The answer of one that asks whether.
-#[derive(Drop)]
+#[derive(Clone, Copy)]
 pub enum Whether {
     Yes,
     No,
@@ -116,7 +116,7 @@ pub enum Whether {
 }
 
 // What a call hands back: its answer, and table and state as they are then.
-#[derive(Drop)]
+#[derive(Clone, Copy)]
 pub struct Out {
     pub answer: Done,
     pub table: Table,

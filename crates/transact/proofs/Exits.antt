@@ -27,7 +27,7 @@ use Rattle.state.specs.declared.types.Out.{Out}
 use Rattle.state.specs.Values.{file_at, with_flags, in_shape, opened, closed, with_meta, with_cursor}
 use Rattle.state.specs.Refusals.{numbers, on_done}
 use Rattle.state.specs.Checks.{checks}
-use Rattle.state.specs.World.{World, Outcome, ended, result, kept, refuse, after, promised}
+use Rattle.state.specs.World.{World, Outcome, ended, after_call, kept, refuse, after, promised}
 use Rattle.state.proofs.Numbers.{numbers_same, outcome_same}
 use Rattle.transact.specs.Truncate.{emptied, new_first, cut, unreached, held_all, changed_file, truncated_by, truncate_in, truncate}
 use Rattle.transact.specs.Rename.{swapped, changed_table, rename, flags}
@@ -41,12 +41,12 @@ use Rattle.transact.specs.Walks.{follows}
 
 -- a refusal that the definition gives too
 pub refused_is : (call : World → Outcome Done) (w : World) (r : Out) (why : Refusal) → r ≡ refused w.table w.state why
-    → call w ≡ refuse w why → after r w.image w.map ≡ result call w
+    → call w ≡ refuse w why → after r w.image w.map ≡ after_call call w
 refused_is call w r why e f = ap (λ (x : Out). after x w.image w.map) e ∙ sym (ap (ended w) f)
 
 -- a change of one file, and of the map
 pub changed_is : (call : World → Outcome Done) (w : World) (r : Out) (i : ℕ) (g f : FileRecord) (m n : List ℕ) → r ≡ changed w.table w.state i g → g ≡ f → m ≡ n
-    → call w ≡ changed_file w i n f → after r w.image m ≡ result call w
+    → call w ≡ changed_file w i n f → after r w.image m ≡ after_call call w
 changed_is call w r i g f m n e h k c =
     ap (λ (x : Out). after x w.image m) (e ∙ ap (changed w.table w.state i) h)
     ∙ ap (after (changed w.table w.state i f) w.image) k
@@ -69,7 +69,7 @@ module _ (w : World) (i j : ℕ) where
   rename_bad e h = rw (e, lt-ltb 7 j h)
 
   pub rename_done : (t : Table) (s : State) → Checked w i Fine → j ≤ 7 → t ≡ swapped w.table i j → s ≡ opened w.state
-      → after (record { answer = Fine; table = t; state = s }) w.image w.map ≡ result (λ w. rename w i j) w
+      → after (record { answer = Fine; table = t; state = s }) w.image w.map ≡ after_call (λ w. rename w i j) w
   unfolding rename
   rename_done t s e h g k = rw (e, le-ltb 7 j h, g, k)
 
@@ -181,20 +181,20 @@ module _ (w : World) where
       → img ≡ ran w.image (new_meta_stores p (record { page_count = w.state.page_count; seq = w.state.meta_seq + 1 }) (live_files w.table))
       → m ≡ set (released (set w.map p used)) w.state.meta_page free
       → s ≡ closed (with_cursor (with_meta w.state p (w.state.meta_seq + 1)) (beyond w.state.page_count p))
-      → after (record { answer = Fine; table = w.table; state = s }) img m ≡ result moved w
+      → after (record { answer = Fine; table = w.table; state = s }) img m ≡ after_call moved w
   unfolding moved
   moved_done p img m s h e a b c = rw (ne_eqb w.state.meta_seq 4294967295 h, e, a, b, c)
 
   pub committed_is : (call : World → Outcome Done) (l : List Store) (img m : List ℕ) (s : State) → call w ≡ committed w l
       → img ≡ ran w.image l → m ≡ released w.map → s ≡ closed w.state
-      → after (record { answer = Fine; table = w.table; state = s }) img m ≡ result call w
+      → after (record { answer = Fine; table = w.table; state = s }) img m ≡ after_call call w
   committed_is call l img m s e a b c = rw (a, b, c) (sym (ap (ended w) e))
 
 -- ---- flags
 
 -- the answer and the table by value are what the definition leaves
 pub flags_is : (w : World) (i n : ℕ) (a : Flagged) (t : Table) → a ≡ flags_answer (length w.image) (length w.map) w.state i
-    → t ≡ flags_table (length w.image) (length w.map) w.table w.state i n → after_flags a t w.image w.map ≡ result (λ w. flags w i n) w
+    → t ≡ flags_table (length w.image) (length w.map) w.table w.state i n → after_flags a t w.image w.map ≡ after_call (λ w. flags w i n) w
 unfolding flags flags_answer flags_table
 flags_is w i n a t e h = rw (e, h) (by (checks (length w.image) (length w.map) w.state w.state.writer.active i))
   where
@@ -206,5 +206,5 @@ flags_is w i n a t e h = rw (e, h) (by (checks (length w.image) (length w.map) w
     by Fine = refl
 
 -- a promise of it that is kept in numbers is kept
-pub flags_same : (call : World → Outcome Done) (w : World) (r : Flagged) (t : Table) (i m : List ℕ) → flags_yield r t i m ≡ promised call w → after_flags r t i m ≡ result call w
-flags_same call w r t i m e = outcome_same numbers numbers_same (after_flags r t i m) (result call w) e
+pub flags_same : (call : World → Outcome Done) (w : World) (r : Flagged) (t : Table) (i m : List ℕ) → flags_yield r t i m ≡ promised call w → after_flags r t i m ≡ after_call call w
+flags_same call w r t i m e = outcome_same numbers numbers_same (after_flags r t i m) (after_call call w) e

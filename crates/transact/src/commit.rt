@@ -3,7 +3,7 @@ ghost use Rattle.std.specs.Prelude.{◌≡◌, ◌+◌, ◌≤◌, set};
 ghost use Rattle.map.specs.Map.{used, free, released};
 ghost use Rattle.metalog.specs.Log.{log_end};
 ghost use Rattle.state.specs.Values.{closed, with_meta, with_cursor};
-ghost use Rattle.state.specs.World.{before, after, result, yields, promised};
+ghost use Rattle.state.specs.World.{before, after, after_call, yields, promised};
 ghost use Rattle.transact.specs.Commit.{dirty_files, moved, appended_at, commit};
 
 use crate::{files, rows};
@@ -14,7 +14,7 @@ use state::types::{Done, Out, Refusal, State, Table};
 
 // The map after a move: the new page is used, held pages are free, and so is the old page.
 fn move_map(map: &mut [u8], page: usize, old: usize)
-    ensures* { λ _. ⌜ map.new ≡ set (released (set map.old page used)) old free ⌝ }
+    ensures { map.new ≡ set (released (set map.old page used)) old free }
 {
     map::use_page(map, page);
     map::release(map);
@@ -23,7 +23,7 @@ fn move_map(map: &mut [u8], page: usize, old: usize)
 
 // The state after a move: the transaction ends.
 fn move_state(state: State, page: u16, seq: u32, cursor: u16) -> State
-    ensures* { λ r. ⌜ r ≡ closed (with_cursor (with_meta state page seq) cursor) ⌝ }
+    ensures { result ≡ closed (with_cursor (with_meta state page seq) cursor) }
 {
     let mut s = state;
     s.meta_page = page;
@@ -36,8 +36,8 @@ fn move_state(state: State, page: u16, seq: u32, cursor: u16) -> State
 // A commit whose batch has no place on the metadata page.
 fn commit_moved(image: &mut [u8], map: &mut [u8], table: Table, state: State) -> Out
     requires { state.cursor ≤ state.page_count }
-    ensures* { λ r. ⌜ after r image.new map.new
-        ≡ result moved (before image.old map.old table state) ⌝ }
+    ensures { after result image.new map.new
+        ≡ after_call moved (before image.old map.old table state) }
 {
     if state.meta_seq == 4294967295 {
         return files::refuse(table, state, Refusal::SeqEnd);
@@ -66,9 +66,9 @@ fn commit_moved(image: &mut [u8], map: &mut [u8], table: Table, state: State) ->
 // A commit of a batch: on the metadata page where it fits and the rest is all 0xFF.
 fn commit_batch(image: &mut [u8], map: &mut [u8], table: Table, state: State) -> Out
     requires { state.cursor ≤ state.page_count }
-    ensures* { λ r. ⌜ after r image.new map.new
-        ≡ result (λ w. appended_at w (dirty_files w.table) (log_end w.image w.state.meta_page))
-        (before image.old map.old table state) ⌝ }
+    ensures { after result image.new map.new
+        ≡ after_call (λ w. appended_at w (dirty_files w.table) (log_end w.image w.state.meta_page))
+        (before image.old map.old table state) }
 {
     let meta = state.meta_page as usize;
     let found = metalog::log_end(image, meta);
@@ -91,8 +91,8 @@ fn commit_batch(image: &mut [u8], map: &mut [u8], table: Table, state: State) ->
 
 // Commits the dirty files. With none dirty nothing is stored and the log is not looked at.
 pub fn commit(image: &mut [u8], map: &mut [u8], table: Table, state: State) -> Out
-    ensures* { λ r. ⌜ yields r image.new map.new
-        ≡ promised commit (before image.old map.old table state) ⌝ }
+    ensures { yields result image.new map.new
+        ≡ promised commit (before image.old map.old table state) }
 {
     let writer = state.writer;
     let seen = state::checks::check(image.len(), map.len(), state, writer.active, 0);

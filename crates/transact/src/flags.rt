@@ -7,7 +7,7 @@ ghost use Rattle.transact.specs.Flags.{flags_answer, flags_table, flags_yield};
 use state::types::{Done, Out, State, Table};
 
 // The answer, and the state after it.
-#[derive(Drop)]
+#[derive(Clone, Copy)]
 pub struct Flagged {
     pub answer: Done,
     pub state: State,

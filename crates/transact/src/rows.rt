@@ -9,7 +9,7 @@ use metalog::Files;
 use page::MetaHeader;
 use state::types::{FileRecord, Table};
 
-#[derive(Drop)]
+#[derive(Clone, Copy)]
 pub struct Rows {
     pub last: [u16; 8],
     pub first: [u32; 8],

@@ -27,7 +27,7 @@ use Rattle.state.specs.declared.types.Table.{Table}
 use Rattle.state.specs.declared.types.State.{State}
 use Rattle.state.specs.Values.{empty_record, empty_table}
 use Rattle.state.specs.Checks.{sizes}
-use Rattle.state.specs.World.{World, before, result}
+use Rattle.state.specs.World.{World, before, after_call}
 use Rattle.state.proofs.Laws.{sizes_say}
 use Rattle.volume.specs.Scan.{best_of}
 use Rattle.volume.specs.Format.{erased_if, erasures, first_meta, format_stores, formatted, format}
@@ -180,7 +180,7 @@ module _ (w : World) (fit : sizes (length w.image) (length w.map) ≡ true) wher
 
   -- a freshly formatted image mounts with eight empty files, whatever map of its length, table and state are lent
   pub format_mounts : (map : List ℕ) (t : Table) (s : State) → length map ≡ length w.map
-      → let x = (result format w).world in
+      → let x = (after_call format w).world in
       mount (before x.image map t s) ≡ finds (before x.image map t s) (best_of page (first_meta (length w.map))) empty_table.files x.map
   unfolding formatted
   format_mounts map t s e =

@@ -20,7 +20,7 @@ use Rattle.state.specs.declared.types.Done.{Done}
 use Rattle.state.specs.declared.types.Done.TheVariants.{Done as Fine, Refused}
 use Rattle.state.specs.Values.{settled}
 use Rattle.state.specs.Checks.{sizes}
-use Rattle.state.specs.World.{World, Outcome, before, result, refuse}
+use Rattle.state.specs.World.{World, Outcome, before, after_call, refuse}
 use Rattle.volume.specs.declared.Best.{Best}
 use Rattle.volume.specs.Scan.{scan}
 use Rattle.volume.specs.Mount.{Maybe, bad, good, LoadedAll, load_from, best_ok, mount_from, mounted_as, mount_best, mount_with, mount}
@@ -171,10 +171,10 @@ mount_again w h map t s e =
     (subst (SameMount (finds w x.best x.files x.map)) (sym again) (finds_same w (before w.image map t s) x.best x.files x.map))
 
 -- so mount twice gives the same files
-pub mount_twice : (w : World) → (mount w).answer ≡ Fine → SameMount (mount w) (mount (result mount w).world)
+pub mount_twice : (w : World) → (mount w).answer ≡ Fine → SameMount (mount w) (mount (after_call mount w).world)
 mount_twice w h =
     let x = mount_says w h in
     let o = mount w in
     let l : length (mount w).map ≡ length w.map = ap (λ (o : Outcome Done). length o.map) x.is ∙ x.mounted.marks.size in
-    let i : (result mount w).world.image ≡ w.image = ap (λ (o : Outcome Done). (result (λ w. o) w).world.image) x.is in
+    let i : (after_call mount w).world.image ≡ w.image = ap (λ (o : Outcome Done). (after_call (λ w. o) w).world.image) x.is in
     rw i (mount_again w h (mount w).map (mount w).table (mount w).state l)

@@ -1,10 +1,12 @@
 // Format and mount. Every function is total: an image and a map of any length, table and state of any value.
+#![tactic(auto)]
+
 ghost use Rattle.std.specs.Prelude.{◌≡◌, ◌≤◌, length, get_or, set, eqb};
 ghost use Rattle.page.specs.Page.{page_of, meta_of};
 ghost use Rattle.page.specs.Store.{ran};
 ghost use Rattle.map.specs.Map.{cleared, used};
 ghost use Rattle.chain.specs.Steps.{read_at, walk};
-ghost use Rattle.state.specs.World.{before, after, result, yields, promised};
+ghost use Rattle.state.specs.World.{before, after, after_call, yields, promised};
 ghost use Rattle.volume.specs.Scan.{better, scan};
 ghost use Rattle.volume.specs.Format.{erased_if, erasures, format_stores, format};
 ghost use Rattle.volume.specs.Mount.{claimed, load, load_from, best_ok, mount_from, mount_best, mount};
@@ -16,7 +18,7 @@ use page::{MetaHeader, MetaRead};
 use state::types::{Done, FileRecord, Out, Refusal, State, Table};
 
 // The best metadata page so far: seq 0 is none yet.
-#[derive(Drop)]
+#[derive(Clone, Copy)]
 pub struct Best {
     pub page: usize,
     pub page_count: u32,
@@ -24,14 +26,14 @@ pub struct Best {
 }
 
 // A file's record, or that its pages are damaged.
-#[derive(Drop)]
+#[derive(Clone, Copy)]
 struct FileLoad {
     ok: bool,
     file: FileRecord,
 }
 
 // All eight, or that some file's are.
-#[derive(Drop)]
+#[derive(Clone, Copy)]
 struct TableLoad {
     ok: bool,
     table: Table,
@@ -41,7 +43,7 @@ struct TableLoad {
 
 // The better of the best so far and what was read on a page: only a higher seq replaces it.
 fn better_meta(best: Best, page: usize, read: MetaRead) -> Best
-    ensures* { λ r. ⌜ r ≡ better best page read ⌝ }
+    ensures { result ≡ better best page read }
 {
     let MetaRead::Found(m) = read else {
         return best;
@@ -58,7 +60,7 @@ fn better_meta(best: Best, page: usize, read: MetaRead) -> Best
 
 // The best metadata page of the first so many pages.
 fn scan_meta(image: &[u8], pages: usize) -> Best
-    ensures* { λ r. ⌜ r ≡ scan image.now pages ⌝ }
+    ensures { result ≡ scan image.now pages }
 {
     let mut best = Best {
         page: 0,
@@ -77,7 +79,7 @@ fn scan_meta(image: &[u8], pages: usize) -> Best
 
 // Erases page i if it is p or a metadata header reads there.
 fn erase_if(image: &mut [u8], p: usize, i: usize)
-    ensures* { λ _. ⌜ image.new ≡ ran image.old (erased_if p i (meta_of (page_of image.old i))) ⌝ }
+    ensures { image.new ≡ ran image.old (erased_if p i (meta_of (page_of image.old i))) }
 {
     let read = page::meta_at(image, i);
     if let MetaRead::Found(_) = read {
@@ -90,7 +92,7 @@ fn erase_if(image: &mut [u8], p: usize, i: usize)
 }
 
 fn erase_old(image: &mut [u8], p: usize, n: usize)
-    ensures* { λ _. ⌜ image.new ≡ ran image.old (erasures image.old p n) ⌝ }
+    ensures { image.new ≡ ran image.old (erasures image.old p n) }
 {
     let mut i = 0;
     while i < n {
@@ -100,7 +102,7 @@ fn erase_old(image: &mut [u8], p: usize, n: usize)
 }
 
 fn format_image(image: &mut [u8], p: usize, n: u16)
-    ensures* { λ _. ⌜ image.new ≡ ran image.old (format_stores image.old p n) ⌝ }
+    ensures { image.new ≡ ran image.old (format_stores image.old p n) }
 {
     erase_old(image, p, n as usize);
     page::store_meta(
@@ -115,14 +117,14 @@ fn format_image(image: &mut [u8], p: usize, n: u16)
 
 // All pages below count free, and page p used.
 fn fresh_map(map: &mut [u8], count: usize, p: usize)
-    ensures* { λ _. ⌜ map.new ≡ set (cleared (length map.old) count) p used ⌝ }
+    ensures { map.new ≡ set (cleared (length map.old) count) p used }
 {
     map::clear(map, count);
     map::use_page(map, p);
 }
 
 pub fn format(image: &mut [u8], map: &mut [u8], table: Table, state: State) -> Out
-    ensures* { λ r. ⌜ yields r image.new map.new ≡ promised format (before image.old map.old table state) ⌝ }
+    ensures { yields result image.new map.new ≡ promised format (before image.old map.old table state) }
 {
     let n = map.len();
     if state::checks::sizes_fit(image.len(), n) {
@@ -151,7 +153,7 @@ pub fn format(image: &mut [u8], map: &mut [u8], table: Table, state: State) -> O
 
 // Page p is used from now on. Whether it was free.
 fn claim_page(map: &mut [u8], p: usize) -> bool
-    ensures* { λ r. ⌜ (r ≡ eqb (get_or map.old p 0) 0) × (map.new ≡ set map.old p used) ⌝ }
+    ensures { (result ≡ eqb (get_or map.old p 0) 0) × (map.new ≡ set map.old p used) }
 {
     if map.len() <= p {
         return true;
@@ -163,7 +165,7 @@ fn claim_page(map: &mut [u8], p: usize) -> bool
 
 // Walks back from page p and claims every page on the way. Where it fails the map is left half marked.
 fn claim_walk(image: &[u8], count: usize, map: &mut [u8], p: PagePointer, first: u32) -> bool
-    ensures* { λ r. ⌜ marked_as r map.new ≡ claimed map.old p (walk count (read_at image.now) first p) (walk count (read_at image.now) first p).ends ⌝ }
+    ensures { marked_as result map.new ≡ claimed map.old p (walk count (read_at image.now) first p) (walk count (read_at image.now) first p).ends }
 {
     let mut here = chain::place_of(p);
     loop {
@@ -187,7 +189,7 @@ fn claim_walk(image: &[u8], count: usize, map: &mut [u8], p: PagePointer, first:
 }
 
 fn no_file(ok: bool) -> FileLoad
-    ensures* { λ r. ⌜ r ≡ no_file ok ⌝ }
+    ensures { result ≡ no_file ok }
 {
     let file = state::values::empty_record();
     FileLoad { ok, file }
@@ -195,7 +197,7 @@ fn no_file(ok: bool) -> FileLoad
 
 // The file whose last page is p, as an entry has it.
 fn load(image: &[u8], count: usize, map: &mut [u8], p: u16, first: u32, flags: u8) -> FileLoad
-    ensures* { λ r. ⌜ loaded_as r map.new ≡ load image.now count map.old p first flags ⌝ }
+    ensures { loaded_as result map.new ≡ load image.now count map.old p first flags }
 {
     if p == seq::ids::NONE {
         return no_file(true);
@@ -227,7 +229,7 @@ fn load(image: &[u8], count: usize, map: &mut [u8], p: u16, first: u32, flags: u
 // ---- mount: all files, from the best metadata page
 
 fn load_files(image: &[u8], count: usize, map: &mut [u8], f: Files) -> TableLoad
-    ensures* { λ r. ⌜ all_as r map.new ≡ load_from image.now count f 0 8 map.old ⌝ }
+    ensures { all_as result map.new ≡ load_from image.now count f 0 8 map.old }
 {
     let mut table = state::values::empty_table();
     let mut i = 0;
@@ -244,21 +246,21 @@ fn load_files(image: &[u8], count: usize, map: &mut [u8], f: Files) -> TableLoad
 }
 
 fn best_ok(n: usize, b: Best) -> bool
-    ensures* { λ r. ⌜ r ≡ best_ok n b ⌝ }
+    ensures { result ≡ best_ok n b }
 {
     let count = b.page_count as usize;
     (1 <= b.seq) & (b.page < count) & (count <= n)
 }
 
 fn no_table() -> TableLoad
-    ensures* { λ r. ⌜ r ≡ no_table ⌝ }
+    ensures { result ≡ no_table }
 {
     let table = state::values::empty_table();
     TableLoad { ok: false, table }
 }
 
 fn load_best(image: &[u8], map: &mut [u8], b: Best) -> TableLoad
-    ensures* { λ r. ⌜ all_as r map.new ≡ mount_from image.now (length map.old) b ⌝ }
+    ensures { all_as result map.new ≡ mount_from image.now (length map.old) b }
 {
     if best_ok(map.len(), b) {} else {
         return no_table();
@@ -276,7 +278,7 @@ fn load_best(image: &[u8], map: &mut [u8], b: Best) -> TableLoad
 
 fn mount_best(image: &[u8], map: &mut [u8], table: Table, state: State, best: Best) -> Out
     requires { length map.old ≤ 1024 }
-    ensures* { λ r. ⌜ after r image.now map.new ≡ result (λ w. mount_best w best) (before image.now map.old table state) ⌝ }
+    ensures { after result image.now map.new ≡ after_call (λ w. mount_best w best) (before image.now map.old table state) }
 {
     let r = load_best(image, map, best);
     if r.ok {
@@ -310,7 +312,7 @@ fn mount_best(image: &[u8], map: &mut [u8], table: Table, state: State, best: Be
 // ---- mount: the call
 
 pub fn mount(image: &[u8], map: &mut [u8], table: Table, state: State) -> Out
-    ensures* { λ r. ⌜ yields r image.now map.new ≡ promised mount (before image.now map.old table state) ⌝ }
+    ensures { yields result image.now map.new ≡ promised mount (before image.now map.old table state) }
 {
     let n = map.len();
     if state::checks::sizes_fit(image.len(), n) {

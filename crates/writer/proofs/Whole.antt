@@ -14,7 +14,7 @@ use Rattle.state.specs.declared.types.Done.TheVariants.{Done as Fine, Refused}
 use Rattle.state.specs.declared.types.Refusal.{Refusal}
 use Rattle.state.specs.Values.{with_cursor, with_writer}
 use Rattle.state.specs.Checks.{is_mounted, checks}
-use Rattle.state.specs.World.{World, Outcome, After, ended, result}
+use Rattle.state.specs.World.{World, Outcome, After, ended, after_call}
 use Rattle.state.proofs.Laws.{OpenWriter, writer_says, Passed, checks_pass}
 use Rattle.writer.specs.Write.{Writing, write_from, begun, written_as, write}
 use Rattle.writer.specs.Inner.{Made, makes, may_write}
@@ -123,11 +123,11 @@ module _ (w : World) (l l' : List ℕ) (some : 0 < length l) (some' : 0 < length
   abbrev leave : Made → After Done
   leave z = record { answer = Fine; world = record { image = z.image; map = z.map; table = w.table; state = with_writer (with_cursor w.state z.cursor) z.writer } }
 
-  pub two_writes : result (λ v. write v l') (result (λ v. write v l) w).world ≡ result (λ v. write v (l ++ l')) w
+  pub two_writes : after_call (λ v. write v l') (after_call (λ v. write v l) w).world ≡ after_call (λ v. write v (l ++ l')) w
   unfolding with_writer with_cursor
   two_writes =
-      let a : (result (λ v. write v l) w).world ≡ world' = ap (λ (o : Outcome Done). (ended w o).world) (wrote_is w l some wrote_first) in
-      ap (result (λ v. write v l')) a
+      let a : (after_call (λ v. write v l) w).world ≡ world' = ap (λ (o : Outcome Done). (ended w o).world) (wrote_is w l some wrote_first) in
+      ap (after_call (λ v. write v l')) a
       ∙ ap (ended world') (wrote_is world' l' some' wrote_second)
       ∙ ap leave (sym (resume w.image w.state.page_count (length l') l' first))
       ∙ ap (λ (x : Writing). leave (makes w.image x)) (sym (cut w.state.page_count l l' (begun w) sound full))

@@ -15,7 +15,7 @@ use state::types::{Done, Out, Refusal, State, Table, Writer};
 const LIMIT: u32 = 4294967294;
 
 // The cursor and the writer on their way through a write. The writer's own array is not used there: its bytes are lent apart.
-#[derive(Drop)]
+#[derive(Clone, Copy)]
 pub struct Pen {
     pub cursor: u16,
     pub writer: Writer,

@@ -42,7 +42,7 @@ use denote.Triple.Walked.{says, Stays, stay_ref, stay_none, stay_none_slice, wal
 use denote.Triple.Clauses.{ensured, lasts}
 use denote.Exit.{yes}
 use Rattle.state.specs.Values.{with_search}
-use Rattle.state.specs.World.{before, result}
+use Rattle.state.specs.World.{before, after_call}
 use Rattle.search.specs.Search.{start}
 use Rattle.export.specs.Replies.{SoughtReplied}
 use Rattle.export.proofs.Told.{parts_are}
@@ -107,7 +107,7 @@ module _ {M : Type 1} {𝓤 : Ura M} (𝓛 : Logic 𝓤) (at_mem : Memory → SP
 
   -- what the call by value is told to give
   abbrev Told : SearchParts → Type 0
-  Told a = SoughtReplied a image.now map.now table h (result (λ w. start w file) (before image.now map.now table h))
+  Told a = SoughtReplied a image.now map.now table h (after_call (λ w. start w file) (before image.now map.now table h))
 
   -- the calls: what they are passed, what they ask, and what is known of their results
   abbrev to-g : (G 𝓛 at_mem run).Ghost

@@ -44,7 +44,7 @@ use denote.Triple.Clauses.{ensured, lasts}
 use denote.Exit.{yes}
 use Rattle.state.specs.declared.types.Table.{Table}
 use Rattle.state.specs.Values.{with_search}
-use Rattle.state.specs.World.{before, result}
+use Rattle.state.specs.World.{before, after_call}
 use Rattle.search.specs.Search.{turn}
 use Rattle.export.specs.Replies.{SoughtReplied}
 use Rattle.export.proofs.Told.{parts_are}
@@ -106,7 +106,7 @@ module _ {M : Type 1} {𝓤 : Ura M} (𝓛 : Logic 𝓤) (at_mem : Memory → SP
 
   -- what the call by value is told to give
   abbrev Told : SearchParts → Type 0
-  Told a = (t : Table) → SoughtReplied a image.now map.now t h (result (turn side) (before image.now map.now t h))
+  Told a = (t : Table) → SoughtReplied a image.now map.now t h (after_call (turn side) (before image.now map.now t h))
 
   -- the calls: what they are passed, what they ask, and what is known of their results
   abbrev to-g : (G 𝓛 at_mem run).Ghost

@@ -1,0 +1,16 @@
+-- `map::count_all` meets its contract. The invariant: what was counted, and what is free in the rest, is what is free.
+-- Assumes nothing.
+use Rattle.map.proofs.Laws.{count_split, count_le}
+use Rattle.map.specs.Map.{free_count}
+use Rattle.runs.proofs.Laws.{rest_drop}
+use lib.ListN.{length, take, drop, length-take, length-drop}
+use native.Mathlib.Omega.{arith}
+use mathlib.Core.Path.{◌≡◌, ap}
+use Prim.Native.Nat.{◌≤◌, ◌+◌, ◌-◌}
+use Rattle.map.proofs.count_all.Given as goal
+
+abbrev pub invariant-loop-rest : goal.invariant-loop-rest
+invariant-loop-rest l = (l.n + length l.rest ≤ length l.m) × (l.n + free_count l.rest ≡ free_count l.m)
+
+abbrev pub decreases-loop-rest : goal.decreases-loop-rest
+decreases-loop-rest l = length l.rest

@@ -1,0 +1,7 @@
+-- `metalog::add_one` meets its contract.
+-- Assumes nothing.
+use borrow.Author.Rules.{rules}
+use Rattle.metalog.proofs.add_one.Goals as goal
+
+pub returns : goal.returns
+returns c = rw (c.both-ok.ensures, c.is_sound.ensures, c.put_entry-files.ensures)

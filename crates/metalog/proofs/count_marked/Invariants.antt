@@ -1,0 +1,18 @@
+-- `metalog::count_marked` meets its contract.
+-- Assumes nothing.
+use Rattle.metalog.proofs.Runs.{marked_more, one_le, one_more, all_counted}
+use Rattle.metalog.specs.Batch.{marked_from, marked}
+use borrow.Author.Rules.{rules}
+use lib.ListN.{get_or}
+use mathlib.Core.Bool.{false, cond}
+use native.Mathlib.Nat.{zero-add}
+use native.Mathlib.Omega.{arith}
+use mathlib.Core.Path.{◌≡◌, ap}
+use Prim.Native.Nat.{ℕ, ◌≤◌, ◌+◌, ◌-◌}
+use Rattle.metalog.proofs.count_marked.Given as goal
+
+abbrev pub invariant-loop-i : goal.invariant-loop-i
+invariant-loop-i l = (l.i ≤ 8) × (l.n ≤ l.i) × (l.n + marked_from l.marks l.i (8 - l.i) ≡ marked_from l.marks 0 8)
+
+abbrev pub decreases-loop-i : goal.decreases-loop-i
+decreases-loop-i l = 8 - l.i

@@ -1,0 +1,23 @@
+-- `runs::place` meets its contract.
+-- Assumes nothing.
+use Rattle.runs.proofs.Laws.{put_splice, placed_in, placed_out}
+use borrow.Rule.Slice.PartMut.{put_mid}
+use lib.ListN.{length}
+use native.Mathlib.Omega.{arith}
+use Prim.Native.Nat.{◌+◌, ◌-◌}
+use mathlib.Core.Path.{ap, sym, ◌∙◌}
+use Rattle.runs.proofs.place.Goals as goal
+
+pub returns-then-run-d : goal.returns-then-run-d
+returns-then-run-d c =
+    let a = c.args in
+    let n = length a.run.now in
+    ap (put_mid a.at (a.at + n - a.at) a.d.now) c.copy.ensures
+    ∙ put_splice a.d.now a.at (a.at + n - a.at) a.run.now (omega arith)
+    ∙ sym (placed_in a.d.now a.at a.run.now (omega arith))
+
+pub returns-else-run-d : goal.returns-else-run-d
+returns-else-run-d c = let a = c.args in sym (placed_out a.d.now a.at a.run.now (omega arith))
+
+pub returns-else-at-d : goal.returns-else-at-d
+returns-else-at-d c = let a = c.args in sym (placed_out a.d.now a.at a.run.now (omega arith))

@@ -1,0 +1,9 @@
+-- `state::values::open_transaction` meets its contract.
+-- Assumes nothing.
+use Rattle.state.specs.Values.{opened}
+use borrow.Author.Rules.{rules}
+use Rattle.state.proofs.values.open_transaction.Goals as goal
+
+pub returns : goal.returns
+unfolding opened
+returns c = rw c.no_search-search.ensures
