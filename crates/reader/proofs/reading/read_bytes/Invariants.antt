@@ -1,0 +1,18 @@
+-- `reader::reading::read_bytes` meets its contract: what is read so far with what is left to read is what the whole read gives.
+-- Assumes nothing.
+-- what a turn leaves
+use mathlib.Core.Path.{◌≡◌, refl, sym, ◌∙◌}
+use Prim.Native.Nat.{◌+◌, ◌≤◌, ◌-◌}
+use native.Mathlib.Omega.{arith}
+use lib.ListN.{length}
+use borrow.Author.Rules.{rules}
+use Rattle.reader.proofs.Bytes.{bytes, rest, rest_first, turn_none, turn_again, turn_less, read_damaged, read_done}
+use Rattle.reader.proofs.reading.read_bytes.Given as goal
+
+abbrev pub invariant-loop-done : goal.invariant-loop-done
+invariant-loop-done l = (l.done ≤ length l.out)
+    × (length l.out ≡ length l.initial.out)
+    × (rest l.image l.count l.f l.reader.seq (length l.initial.out) l.done l.out ≡ bytes l.image l.count l.f l.reader.seq (length l.initial.out))
+
+abbrev pub decreases-loop-done : goal.decreases-loop-done
+decreases-loop-done l = length l.out - l.done

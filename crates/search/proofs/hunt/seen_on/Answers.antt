@@ -1,0 +1,24 @@
+-- `search::hunt::seen_on` meets its contract: the tests that led to each return say which case it is.
+-- Assumes nothing.
+use mathlib.Core.Path.{sym, ◌∙◌}
+use Rattle.search.proofs.Pages.{seen_above, seen_past, seen_left, seen_found, seen_first, seen_back}
+use borrow.Author.Rules.{rules}
+use Rattle.search.proofs.hunt.seen_on.Goals as goal
+
+pub returns-then-limit-seq : goal.returns-then-limit-seq
+returns-then-limit-seq c = seen_above c.args.left c.args.target c.args.limit c.args.h c.if-limit-seq.true
+
+pub returns-then-target-seq : goal.returns-then-target-seq
+returns-then-target-seq c = seen_past c.args.left c.args.target c.args.limit c.args.h c.if-limit-seq.false c.if-target-seq.true
+
+pub returns-then-passed_over : goal.returns-then-passed_over
+returns-then-passed_over c = seen_left c.args.left c.args.target c.args.limit c.args.h c.if-limit-seq.false c.if-target-seq.false (sym c.passed_over.ensures ∙ c.if-passed_over.true)
+
+pub returns-then-h : goal.returns-then-h
+returns-then-h c = seen_found c.args.left c.args.target c.args.limit c.args.h c.if-limit-seq.false c.if-target-seq.false (sym c.passed_over.ensures ∙ c.if-passed_over.false) c.if-h.true _ (c.found_on.ensures _)
+
+pub returns-then-prev : goal.returns-then-prev
+returns-then-prev c = seen_first c.args.left c.args.target c.args.limit c.args.h c.if-limit-seq.false c.if-target-seq.false (sym c.passed_over.ensures ∙ c.if-passed_over.false) c.if-h.false c.if-prev.true
+
+pub returns : goal.returns
+returns c = seen_back c.args.left c.args.target c.args.limit c.args.h c.if-limit-seq.false c.if-target-seq.false (sym c.passed_over.ensures ∙ c.if-passed_over.false) c.if-h.false c.if-prev.false

@@ -1,0 +1,7 @@
+-- `search::hunt::without` meets its contract.
+-- Assumes nothing.
+use borrow.Author.Rules.{rules}
+use Rattle.search.proofs.hunt.without.Goals as goal
+
+pub returns : goal.returns
+returns c = rw c.no_offer-offer.ensures

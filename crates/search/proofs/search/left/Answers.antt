@@ -1,0 +1,7 @@
+-- `search::search::left` meets its contract.
+-- Assumes nothing.
+use borrow.Author.Rules.{rules}
+use Rattle.search.proofs.search.left.Goals as goal
+
+pub returns : goal.returns
+returns c = c.turn.ensures

@@ -1,0 +1,7 @@
+-- `search::search::start_of` meets its contract.
+-- Assumes nothing.
+use borrow.Author.Rules.{rules}
+use Rattle.search.proofs.search.start_of.Goals as goal
+
+pub returns : goal.returns
+returns c = rw (c.links_after-links.ensures, c.last_of.ensures)

@@ -1,0 +1,24 @@
+-- `transact::walk::hold_back` meets its contract: what is held in the end, of the pages after the one at hand, is what the whole holds.
+-- Assumes nothing.
+-- what the step of a turn says
+use mathlib.Core.Path.{◌≡◌, refl, ◌∙◌}
+use mathlib.Core.Bool.{true}
+use native.Mathlib.Omega.{arith}
+use lib.ListN.{length}
+use Rattle.chain.specs.declared.Kind.{Kind}
+use Rattle.chain.specs.declared.Kind.TheVariants.{Stays, Reaches, Breaks}
+use Rattle.chain.specs.Steps.{read_at}
+use Rattle.chain.specs.Seek.{found}
+use Rattle.chain.specs.Back.{wide, walk_back}
+use Rattle.chain.proofs.Places.{SaysBack, says_back}
+use Rattle.chain.proofs.Edges.{ends_not, ends_through}
+use Rattle.transact.specs.Truncate.{others, held_all}
+use Rattle.transact.proofs.Steps.{held_stays, held_reaches}
+use borrow.Author.Rules.{rules}
+use Rattle.transact.proofs.walk.hold_back.Given as goal
+
+abbrev pub invariant-loop-here : goal.invariant-loop-here
+invariant-loop-here l = (length l.map ≡ length l.initial.map) × ((found (wide l.here) (walk_back l.count (read_at l.image) l.limit l.here)).ok ≡ true) × (held_all l.map (others l.last (walk_back l.count (read_at l.image) l.limit l.here).path) ≡ held_all l.initial.map (others l.last (walk_back l.count (read_at l.image) l.limit l.initial.here).path))
+
+abbrev pub decreases-loop-here : goal.decreases-loop-here
+decreases-loop-here l = l.here.seq

@@ -1,0 +1,30 @@
+-- `volume::claim_walk` meets its contract: what the pages from the one at hand on give on the map as it is, the whole walk gives.
+-- Assumes nothing.
+-- the page at hand was free
+-- what the step of a turn says
+-- the map is as long as it was
+-- what the walk from the first page's place gives is what the walk from the page gives
+use mathlib.Core.Path.{◌≡◌, refl, sym, ap, ◌∙◌}
+use mathlib.Core.Bool.{true}
+use mathlib.Core.List.{List}
+use Prim.Native.Nat.{ℕ}
+use borrow.Author.Rules.{rules}
+use lib.Dec.{eqb}
+use lib.ListN.{length, get_or}
+use Rattle.chain.specs.declared.Kind.{Kind}
+use Rattle.chain.specs.declared.Kind.TheVariants.{Stays, Reaches, Breaks}
+use Rattle.chain.specs.declared.Place.{Place}
+use Rattle.chain.specs.Steps.{read_at, Trace, walk}
+use Rattle.chain.specs.Back.{place_of, wide, walk_back}
+use Rattle.chain.proofs.Places.{SaysBack, says_back, walk_wide}
+use Rattle.volume.specs.Mount.{good, claimed}
+use Rattle.volume.proofs.Claims.{claim_taken, claim_stays, claim_breaks, claim_reaches, claim_thin}
+use Rattle.volume.proofs.claim_walk.Given as goal
+
+abbrev pub invariant-loop-here : goal.invariant-loop-here
+invariant-loop-here l = (claimed l.map (wide l.here) (walk_back l.count (read_at l.image) l.first l.here) (walk_back l.count (read_at l.image) l.first l.here).ends
+    ≡ claimed l.initial.map (wide l.initial.here) (walk_back l.count (read_at l.image) l.first l.initial.here) (walk_back l.count (read_at l.image) l.first l.initial.here).ends)
+    × (length l.map ≡ length l.initial.map)
+
+abbrev pub decreases-loop-here : goal.decreases-loop-here
+decreases-loop-here l = l.here.seq
