@@ -51,7 +51,6 @@ whole l =
 
 pub returns-else-claim_page : goal.returns-else-claim_page
 returns-else-claim_page c =
-    let l = c in
     let a = c.args in
     claim_taken c.loop-here.map (wide c.loop-here.here) (walk_back a.count (read_at a.image.now) a.first c.loop-here.here)
     (sym c.claim_page.ensures.0 ∙ c.if-claim_page.false)
@@ -59,25 +58,20 @@ returns-else-claim_page c =
 
 pub returns-in-Stays : goal.returns-in-Stays
 returns-in-Stays c =
-    let g = c in
-    let l = c in
     ap (λ (m : List ℕ). good m) c.claim_page.ensures.1 ∙ claim_stays _ _ _ (free (goal.at.returns-in-Stays c).Then-claim_page) (turn (goal.at.returns-in-Stays c).After-back-next Stays c.in-Stays.is)
     ∙ c.loop-here.invariant.0 ∙ whole (goal.at.returns-in-Stays c).At-loop-here
 
 pub returns-in-Breaks : goal.returns-in-Breaks
 returns-in-Breaks c =
-    let g = c in
-    let l = c in
-    claim_breaks c.loop-here.map _ _ (turn (goal.at.returns-in-Breaks c).After-back-next Breaks c.in-Breaks.is) ∙ c.loop-here.invariant.0 ∙ whole (goal.at.returns-in-Breaks c).At-loop-here
+    claim_breaks c.loop-here.map (wide c.loop-here.here) _ (turn (goal.at.returns-in-Breaks c).After-back-next Breaks c.in-Breaks.is) ∙ c.loop-here.invariant.0 ∙ whole (goal.at.returns-in-Breaks c).At-loop-here
 
 pub loop-here-smaller : goal.loop-here-smaller
 loop-here-smaller c = (turn (goal.at.loop-here-smaller c).After-back-next Reaches c.in-Reaches.is).1
 
 pub loop-here-preserved : goal.loop-here-preserved
 loop-here-preserved c =
-    let g = c in
     let w = turn (goal.at.loop-here-preserved c).After-back-next Reaches c.in-Reaches.is in (
-      rw c.claim_page.ensures.1 (claim_reaches _ _ _ _ _ (free (goal.at.loop-here-preserved c).Then-claim_page) w.0 ∙ c.loop-here.invariant.0),
+      rw c.claim_page.ensures.1 (claim_reaches _ (wide c.loop-here.here) _ (wide c.back-next.result.place) _ (free (goal.at.loop-here-preserved c).Then-claim_page) w.0 ∙ c.loop-here.invariant.0),
       kept (goal.at.loop-here-preserved c).Then-claim_page,
     )
 
@@ -88,7 +82,7 @@ pub shape_of-map-else-claim_page : goal.shape_of-map-else-claim_page
 shape_of-map-else-claim_page c = c.claim_page.auto.map ∙ c.loop-here.invariant.1
 
 pub shape_of-map-in-Stays : goal.shape_of-map-in-Stays
-shape_of-map-in-Stays c = kept c
+shape_of-map-in-Stays c = kept (goal.at.shape_of-map-in-Stays c).Then-claim_page
 
 pub shape_of-map-in-Breaks : goal.shape_of-map-in-Breaks
-shape_of-map-in-Breaks c = kept c
+shape_of-map-in-Breaks c = kept (goal.at.shape_of-map-in-Breaks c).Then-claim_page

@@ -11,4 +11,4 @@ pub really_seek-requires : goal.really_seek-requires
 really_seek-requires c = omega (arith, c.first_level-level.ensures, level_le (c.args.left + 1) c.args.right)
 
 pub returns : goal.returns
-returns c = c.ReallySeek.ensures ∙ rw c.first_level-level.ensures
+returns c = c.really_seek.ensures ∙ rw c.first_level-level.ensures

@@ -13,15 +13,15 @@ pub returns-in-Refused : goal.returns-in-Refused
 returns-in-Refused c =
     let a = c.args in
     λ t. ap (in_numbers answer_numbers)
-    (answer_refused (before a.image.now a.map.now t a.state) (cond a.to-right right_of left_of) _ _ (sym c.check-passed.ensures ∙ c.in-Refused.is) c.refused.ensures
-    ∙ turned a.to-right _)
+    (answer_refused (before a.image.now a.map.now t a.state) (cond a.to_right right_of left_of) _ _ (sym c.check-passed.ensures ∙ c.in-Refused.is) c.refused.ensures
+    ∙ turned a.to_right _)
 
 pub returns-else-q : goal.returns-else-q
 returns-else-q c =
     let a = c.args in
     λ t. ap (in_numbers answer_numbers)
-    (answer_none (before a.image.now a.map.now t a.state) (cond a.to-right right_of left_of) _ (sym c.check-passed.ensures ∙ c.in-Done.is) c.if-q.false c.refused-else-q.ensures
-    ∙ turned a.to-right _)
+    (answer_none (before a.image.now a.map.now t a.state) (cond a.to_right right_of left_of) _ (sym c.check-passed.ensures ∙ c.in-Done.is) c.if-q.false c.refused-else-q.ensures
+    ∙ turned a.to_right _)
 
 pub right_of-requires : goal.right_of-requires
 right_of-requires c =
@@ -31,18 +31,18 @@ pub returns-then-to_right : goal.returns-then-to_right
 returns-then-to_right c =
     let a = c.args in
     λ t. ap (in_numbers answer_numbers)
-    (answer_replied (before a.image.now a.map.now t a.state) (cond a.to-right right_of left_of) _ _
+    (answer_replied (before a.image.now a.map.now t a.state) (cond a.to_right right_of left_of) _ _
     (sym c.check-passed.ensures ∙ c.in-Done.is) c.if-q.true
     (c.right_of.ensures ∙ ap (λ (b : Bool). cond b right_of left_of a.state.search) (sym c.if-to_right.true))
     c.sought.ensures
-    ∙ turned a.to-right _)
+    ∙ turned a.to_right _)
 
 pub returns : goal.returns
 returns c =
     let a = c.args in
     λ t. ap (in_numbers answer_numbers)
-    (answer_replied (before a.image.now a.map.now t a.state) (cond a.to-right right_of left_of) _ _
+    (answer_replied (before a.image.now a.map.now t a.state) (cond a.to_right right_of left_of) _ _
     (sym c.check-passed.ensures ∙ c.in-Done.is) c.if-q.true
     (c.left_of.ensures ∙ ap (λ (b : Bool). cond b right_of left_of a.state.search) (sym c.if-to_right.false))
     c.sought-2.ensures
-    ∙ turned a.to-right _)
+    ∙ turned a.to_right _)
