@@ -176,7 +176,8 @@ module _ (img : List ℕ) (count : ℕ) (f : FileRecord) (first : ℕ) (followed
       let p : whole.path ≡ near ++ x.1 = tail_same f.last_page _ _ x.3 in
       let d : Distinct (near ++ x.1) = subst Distinct (sym (ap (λ (t : Trace). t.path) v.is) ∙ p) v.distinct in
       let r : drop (length near) whole.path ≡ x.1 = ap (drop (length near)) p ∙ drop-append_seam near x.1 in
-      rw (ne_eqb first f.last_seq n, r) (
+      let u : unreached img count f first ≡ others f.last_page x.1 = rw (ne_eqb first f.last_seq n, r) in
+      subst (λ (l : List ℕ). Each (λ j. get_or (held_all m l) j 0 ≡ get_or m j 0) (visited (last_of f) (walk count (read_at img) first (last_of f)))) (sym u) (
         held_other m (others f.last_page x.1) f.last_page (others_not f.last_page x.1),
         each_map (λ j. Each (λ k. k ≡ j → ⊥) x.1) (λ j. get_or (held_all m (others f.last_page x.1)) j 0 ≡ get_or m j 0)
             (λ j a. held_other m (others f.last_page x.1) j (others_each (λ k. k ≡ j → ⊥) f.last_page x.1 a)) near (apart near x.1 d),

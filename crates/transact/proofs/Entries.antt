@@ -22,7 +22,7 @@ use Rattle.transact.specs.Rows.{no_rows, put_row, files_in, Upto, RowsTo}
 
 -- a table that a caller hands in has eight files
 pub table_eight : (t : Table) (vs : List Val) → Is T.the_row t vs → length t.files ≡ 8
-table_eight t vs p = let e = p.1.1.0.1.0.1 in simp length-map at e
+table_eight t vs p = p.1.1.0.1.0.1
 
 -- ---- one row more
 
