@@ -169,7 +169,7 @@ module _ {D : Type 0} {N : ℕ} {w : World} {b : Base} {own : ℕ → Owner} (g 
             now = with_each w.table w.state.writer.file (grown (file_at w.table w.state.writer.file) w.state.writer) l (λ (r : FileRecord). ChainOf (ran w.image (flush_stores w.state.writer)) b.pc (as_file r))
                 (grown_chain (ran w.image (flush_stores w.state.writer)) b.pc (file_at w.table w.state.writer.file) w.state.writer (page_some m) (flush_header m) (chain d))
                 (λ j k. files_flushed m (g.inv.files j) ((g.rules d).now j));
-            base = λ i. base_flushed m b.own ((loose_writer g.inv m.staged.staged).no_file_lem i) (g.inv.mounted.files i) ((g.rules d).base i);
+            base = λ i. base_flushed m b.own ((loose_writer g.inv m.staged.staged).no_file i) (g.inv.mounted.files i) ((g.rules d).base i);
             wr = λ e. clash cc;
           }
 

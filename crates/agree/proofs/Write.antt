@@ -249,7 +249,7 @@ module _ {D : Type 0} {N : ℕ} {w : World} {b : Base} {own : ℕ → Owner} (g 
                     (inv_next p (length l) g.inv (writer_staged x e n) (flush_change m) found.0 (low, short) lim);
                 rules = λ d. record {
                   now = λ j. files_flushed m (g.inv.files j) ((g.rules d).now j);
-                  base = λ j. base_flushed m b.own ((loose_writer g.inv m.staged.staged).no_file_lem j) (g.inv.mounted.files j) ((g.rules d).base j);
+                  base = λ j. base_flushed m b.own ((loose_writer g.inv m.staged.staged).no_file j) (g.inv.mounted.files j) ((g.rules d).base j);
                   wr = λ y. subst (λ (j : ℕ). WriterRuled img' b.pc (rec j) (filled_by (on_page (flushed x) p) l)) (sym (flushed_file x l p))
                       (flushed_ruled img' b.pc (rec x.file) x p l some
                       (let z = (numbers w.image (rec x.file) (s.recs x.file)).0 in

@@ -50,7 +50,7 @@ use Rattle.search.specs.Search as Q
 use Rattle.search.specs.declared.search.Stand.{Stand}
 use Rattle.search.specs.declared.Answer.TheVariants as A
 use Rattle.state.specs.declared.types.Search.{Search}
-use Rattle.calls.specs.Calls.{Call, format, mount, locate, read, skip, seek, search, left, right, open_writer_lem, write, record_end_lem, finish, discard, truncate, rename, flags, commit, located_done, skipped_done, sought_done, answer}
+use Rattle.calls.specs.Calls.{Call, format, mount, locate, read, skip, seek, search, left, right, open_writer, write, record_end, finish, discard, truncate, rename, flags, commit, located_done, skipped_done, sought_done, answer}
 use Rattle.calls.specs.Order.{first, conditions, wrong, reading, on_open, count_of, record_at, misshapen, mount_bad, path_bad, read_bad, open_bad, step_bad, back_bad, hunt_bad, log_bad, moves, is_full, hunted}
 use Rattle.calls.proofs.Cases.{fourth, answered}
 
@@ -233,7 +233,7 @@ first_right w = first_answered w Q.right_of
 
 -- ---- the writer
 
-first_open : (file : ℕ) (w : World) → answer (open_writer_lem file) w ≡ first (conditions (open_writer_lem file) w)
+first_open : (file : ℕ) (w : World) → answer (open_writer file) w ≡ first (conditions (open_writer file) w)
 unfolding answer conditions O.open_writer O.open_in O.open_last too_few
 first_open file w =
     answered (λ (o : Outcome Done). o.answer) w w.state.writer.active file _ _ (λ why. refl)
@@ -291,7 +291,7 @@ on_writer w o d e = answered (λ (o : Outcome Done). o.answer) w false 0 _ _ (λ
     go true = e
     go false = refl
 
-first_end : (w : World) → answer record_end_lem w ≡ first (conditions record_end_lem w)
+first_end : (w : World) → answer record_end w ≡ first (conditions record_end w)
 unfolding answer conditions W.record_end
 first_end w = on_writer w _ false refl
 
@@ -397,9 +397,9 @@ first_refusal (seek file n) w = first_seek file n w
 first_refusal (search file) w = first_search file w
 first_refusal left w = first_left w
 first_refusal right w = first_right w
-first_refusal (open_writer_lem file) w = first_open file w
+first_refusal (open_writer file) w = first_open file w
 first_refusal (write l ok) w = first_write l ok w
-first_refusal record_end_lem w = first_end w
+first_refusal record_end w = first_end w
 first_refusal finish w = first_finish w
 first_refusal discard w = first_discard w
 first_refusal (truncate file n) w = first_truncate file n w

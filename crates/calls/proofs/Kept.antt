@@ -46,7 +46,7 @@ use Rattle.state.specs.declared.types.FileRecord.{FileRecord}
 use Rattle.chain.specs.declared.PagePointer.{PagePointer}
 use Rattle.metalog.specs.declared.Entry.{Entry}
 use Rattle.seq.specs.Seed.{seed_after}
-use Rattle.calls.specs.Calls.{Call, format, mount, locate, read, skip, seek, search, left, right, open_writer_lem, write, record_end_lem, finish, discard, truncate, rename, flags, commit, sought_done, answer, step}
+use Rattle.calls.specs.Calls.{Call, format, mount, locate, read, skip, seek, search, left, right, open_writer, write, record_end, finish, discard, truncate, rename, flags, commit, sought_done, answer, step}
 use Rattle.calls.specs.Order.{mount_leaves, output_left}
 
 -- ---- outcomes that leave the world where they refuse
@@ -294,9 +294,9 @@ refused_leaves (seek file k) w why n e = refl
 refused_leaves (search file) w why n e = (start_keeps w file).keeps why e
 refused_leaves left w why n e = (answered_keeps w Q.left_of).keeps why e
 refused_leaves right w why n e = (answered_keeps w Q.right_of).keeps why e
-refused_leaves (open_writer_lem file) w why n e = (open_keeps w file).keeps why e
+refused_leaves (open_writer file) w why n e = (open_keeps w file).keeps why e
 refused_leaves (write l k) w why n e = (write_keeps w l).keeps why e
-refused_leaves record_end_lem w why n e = (end_keeps w).keeps why e
+refused_leaves record_end w why n e = (end_keeps w).keeps why e
 refused_leaves finish w why n e = (finish_keeps w).keeps why e
 refused_leaves discard w why n e = (discard_keeps w).keeps why e
 refused_leaves (truncate file k) w why n e = (truncate_keeps w file k).keeps why e

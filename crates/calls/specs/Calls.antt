@@ -18,9 +18,8 @@ use Rattle.reader.specs.declared.Skipped.TheVariants as S
 use Rattle.reader.specs.Locate as ReaderLocate
 use Rattle.reader.specs.Read as ReaderRead
 use Rattle.reader.specs.Skip as ReaderSkip
-use Rattle.writer.specs.Open.{open_writer}
+use Rattle.writer.specs.Open as WriterOpen
 use Rattle.writer.specs.Write as WriterWrite
-use Rattle.writer.specs.Write.{record_end}
 use Rattle.writer.specs.Finish as WriterFinish
 use Rattle.transact.specs.Truncate as TransactTruncate
 use Rattle.transact.specs.Rename as TransactRename
@@ -41,9 +40,9 @@ pub data Call : Type 0 where
   search : ℕ → Call
   left : Call
   right : Call
-  open_writer_lem : ℕ → Call
+  open_writer : ℕ → Call
   write : (l : List ℕ) → Bytes l → Call
-  record_end_lem : Call
+  record_end : Call
   finish : Call
   discard : Call
   truncate : ℕ → ℕ → Call
@@ -62,9 +61,9 @@ step (seek file n) w = w
 step (search file) w = (after_call (λ v. SearchCalls.start v file) w).world
 step left w = (after_call SearchCalls.left w).world
 step right w = (after_call SearchCalls.right w).world
-step (open_writer_lem file) w = (after_call (λ v. open_writer v file) w).world
+step (open_writer file) w = (after_call (λ v. WriterOpen.open_writer v file) w).world
 step (write l ok) w = (after_call (λ v. WriterWrite.write v l) w).world
-step record_end_lem w = (after_call record_end w).world
+step record_end w = (after_call WriterWrite.record_end w).world
 step finish w = (after_call WriterFinish.finish w).world
 step discard w = (after_call WriterFinish.discard w).world
 step (truncate file n) w = (after_call (λ v. TransactTruncate.truncate v file n) w).world
@@ -97,9 +96,9 @@ answer (seek file n) w = skipped_done (ReaderSkip.seek_offset w file n)
 answer (search file) w = sought_done (SearchCalls.start w file).answer
 answer left w = sought_done (SearchCalls.left w).answer
 answer right w = sought_done (SearchCalls.right w).answer
-answer (open_writer_lem file) w = (open_writer w file).answer
+answer (open_writer file) w = (WriterOpen.open_writer w file).answer
 answer (write l ok) w = (WriterWrite.write w l).answer
-answer record_end_lem w = (record_end w).answer
+answer record_end w = (WriterWrite.record_end w).answer
 answer finish w = (WriterFinish.finish w).answer
 answer discard w = (WriterFinish.discard w).answer
 answer (truncate file n) w = (TransactTruncate.truncate w file n).answer

@@ -33,7 +33,7 @@ use Rattle.transact.specs.Commit.{dirty_files}
 use Rattle.search.specs.Hunt as H
 use Rattle.search.specs.declared.search.Stand.{Stand}
 use Rattle.search.specs.Search.{start_of, left_of, right_of}
-use Rattle.calls.specs.Calls.{Call, format, mount, locate, read, skip, seek, search, left, right, open_writer_lem, write, record_end_lem, finish, discard, truncate, rename, flags, commit}
+use Rattle.calls.specs.Calls.{Call, format, mount, locate, read, skip, seek, search, left, right, open_writer, write, record_end, finish, discard, truncate, rename, flags, commit}
 
 -- ---- the order
 
@@ -297,9 +297,9 @@ conditions (search file) w =
     (not (is_empty (record_at w file)) && (misshapen w file || hunt_bad (hunted w (start_of file (record_at w file)))))
 conditions left w = on_open w w.state.transaction w.state.search.active false false (hunt_bad (hunted w (left_of w.state.search)))
 conditions right w = on_open w w.state.transaction w.state.search.active false false (hunt_bad (hunted w (right_of w.state.search)))
-conditions (open_writer_lem file) w = opening w file
+conditions (open_writer file) w = opening w file
 conditions (write l ok) w = writing w l
-conditions record_end_lem w = on_open w false w.state.writer.active false false false
+conditions record_end w = on_open w false w.state.writer.active false false false
 conditions finish w = on_open w false w.state.writer.active false false false
 conditions discard w =
     on_open w false w.state.writer.active false false

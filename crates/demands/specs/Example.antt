@@ -58,7 +58,7 @@ bytes = bytes_replicate 300 5 (omega arith)
 
 -- 300 bytes in file 0: two pages
 abbrev pub opened : World
-opened = step (calls.open_writer_lem 0) formatted
+opened = step (calls.open_writer 0) formatted
 
 abbrev pub filled : World
 filled = step (calls.write (replicate 300 5) bytes) opened
@@ -74,7 +74,7 @@ abbrev pub shortened : World
 shortened = step (calls.truncate 0 224) committed
 
 abbrev pub busy : World
-busy = step (calls.write (7 ∷ []) (omega arith, tt)) (step (calls.open_writer_lem 1) shortened)
+busy = step (calls.write (7 ∷ []) (omega arith, tt)) (step (calls.open_writer 1) shortened)
 
 formats : (VolumeFormat.format blank).answer ≡ Fine
 unfolding computing
@@ -86,21 +86,21 @@ start = record { from = blank; bytes = bytes_replicate 2048 255 (omega arith); d
 
 -- what was written, and that calls reach them
 abbrev pub ledger_written : Ledger
-ledger_written = note calls.finish filled (note (calls.write (replicate 300 5) bytes) opened (note (calls.open_writer_lem 0) formatted nothing))
+ledger_written = note calls.finish filled (note (calls.write (replicate 300 5) bytes) opened (note (calls.open_writer 0) formatted nothing))
 
 told_written : Written written ledger_written
-told_written = goes calls.finish (goes (calls.write (replicate 300 5) bytes) (goes (calls.open_writer_lem 0) (starts start)))
+told_written = goes calls.finish (goes (calls.write (replicate 300 5) bytes) (goes (calls.open_writer 0) (starts start)))
 
 abbrev pub ledger_busy : Ledger
 ledger_busy =
-    note (calls.write (7 ∷ []) (omega arith, tt)) (step (calls.open_writer_lem 1) shortened)
-    (note (calls.open_writer_lem 1) shortened (note (calls.truncate 0 224) committed (note calls.commit written ledger_written)))
+    note (calls.write (7 ∷ []) (omega arith, tt)) (step (calls.open_writer 1) shortened)
+    (note (calls.open_writer 1) shortened (note (calls.truncate 0 224) committed (note calls.commit written ledger_written)))
 
 told_committed : Written committed (note calls.commit written ledger_written)
 told_committed = goes calls.commit told_written
 
 told_busy : Written busy ledger_busy
-told_busy = goes (calls.write (7 ∷ []) (omega arith, tt)) (goes (calls.open_writer_lem 1) (goes (calls.truncate 0 224) told_committed))
+told_busy = goes (calls.write (7 ∷ []) (omega arith, tt)) (goes (calls.open_writer 1) (goes (calls.truncate 0 224) told_committed))
 
 pub reached_written : FromFormat written
 reached_written = only_such written ledger_written told_written

@@ -37,8 +37,8 @@ mounted_change {b = b} {p = p} h n f m =
       log_ok = m.log_ok;
       vals = m.vals;
       above = m.above;
-      files = λ i. file_change h (f.no_file_lem i) (m.files i);
-      same = λ q i e. h.off q (λ (z : q ≡ p). f.no_file_lem i (rw z at e)) ∙ m.same q i e;
+      files = λ i. file_change h (f.no_file i) (m.files i);
+      same = λ q i e. h.off q (λ (z : q ≡ p). f.no_file i (rw z at e)) ∙ m.same q i e;
       owners = m.owners;
       unheld = m.unheld;
       unwritten = m.unwritten;
@@ -49,7 +49,7 @@ pub loose : {N : ℕ} {s : Store} {b : Base} {c : Now} {p : ℕ} → Inv N s b c
 loose {b = b} {c = c} {p = p} v n k =
     record {
       no_meta = λ e. n (rw (v.mounted.owners.meta_only p e) v.owners.meta_at);
-      no_file_lem = λ i e. k (v.keep p i e);
+      no_file = λ i e. k (v.keep p i e);
     }
 
 pub loose_free : {N : ℕ} {s : Store} {b : Base} {c : Now} {p : ℕ} → Inv N s b c → c.own p ≡ free → Loose b.own p

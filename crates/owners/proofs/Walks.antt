@@ -42,9 +42,12 @@ walk_below (stop h a) b x here = b
 walk_below (root h a) b x here = b
 walk_below (step h a c h' d w) b x here = b
 walk_below (step h a c h' d w) b x (there m) = walk_below w c x m
+walk_below (stop h a) b x (there m) = elim m [ ]
+walk_below (root h a) b x (there m) = elim m [ ]
 
 pub ok_below : {s : Store} {pc : ℕ} {f : File} {l : List ℕ} → FileOk s pc f l → (x : ℕ) → Mem x l → x < pc
 ok_below (full a h b c d w) x m = walk_below w a x m
+ok_below empty x m = elim m [ ]
 
 -- the walk is the store's: two from one page are one
 pub walk_one : {s : Store} {pc first p : ℕ} {l l' : List ℕ} → Walk s pc first p l → Walk s pc first p l' → l ≡ l'
@@ -70,6 +73,8 @@ walk_falls {q = q} (step {q = q₁} {q' = q₂} h a b h' c w) e z r m y j (there
     let u : q₁ ≡ q = cc in
     let v : r ≤ q₂ = walk_falls w h' z r m y j t e' in
     omega arith
+walk_falls (stop h a) e z r m y j (there t) e' = elim t [ ]
+walk_falls (root h a) e z r m y j (there t) e' = elim t [ ]
 
 -- so it is not the first again
 pub walk_fresh : {s : Store} {pc first p q n : ℕ} {x : List ℕ} {p' q' n' : ℕ} {x' : List ℕ} {k k' : Link} {l : List ℕ} →
@@ -113,6 +118,7 @@ walk_shorter {s} {pc} {first} f' (step {p = p} {q = q} {p' = p'} {l = l} h a c h
   where
     first_apart : (x : ℕ) → Mem x (p ∷ []) → Mem x l → ⊥
     first_apart x here k = walk_fresh h h' d w k
+    first_apart x (there x9) k = elim x9 [ ]
 
     both_apart : (t u : List ℕ) → l ≡ t ++ u → ((x : ℕ) → Mem x t → Mem x u → ⊥) → (x : ℕ) → Mem x (p ∷ t) → Mem x u → ⊥
     both_apart t u e g x here k = walk_fresh h h' d w (rw e (mem_right t k))

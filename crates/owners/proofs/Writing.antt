@@ -156,6 +156,7 @@ run_frame (on a h b r) g = on a (g _ here ∙ h) b (run_frame r (λ x m. g x (th
 
 one_written : (own : ℕ → Owner) (p x : ℕ) → Mem x (p ∷ []) → give own p writer x ≡ writer
 one_written own p x here = give_at own p writer
+one_written own p x (there x4) = elim x4 [ ]
 
 given_written : (own : ℕ → Owner) (p : ℕ) (l : List ℕ) → ((x : ℕ) → own x ≡ writer → Mem x l) → (x : ℕ) → give own p writer x ≡ writer → Mem x (p ∷ l)
 given_written own p l n x h = go (ℕ_discrete x p)

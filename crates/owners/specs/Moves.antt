@@ -21,7 +21,7 @@ NotMeta (met q c l) = ⊥
 -- no committed file and no metadata stands on page p
 pub record Loose (own : ℕ → Owner) (p : ℕ) : Type 0 where
   pub no_meta : own p ≡ meta → ⊥
-  pub no_file_lem : (i : ℕ) → own p ≡ file i → ⊥
+  pub no_file : (i : ℕ) → own p ≡ file i → ⊥
 
 -- ---- owners
 
@@ -136,8 +136,8 @@ abbrev pub with_own : Now → (ℕ → Owner) → Writer → Now
 with_own c o w = record { tab = c.tab; own = o; dirty = c.dirty; tx = c.tx; wr = w }
 
 -- file i is f, and a transaction is open
-abbrev pub with_file_lem : Now → ℕ → File → (ℕ → Owner) → Now
-with_file_lem c i f o = record { tab = set_f c.tab i f; own = o; dirty = set_d c.dirty i; tx = true; wr = shut }
+abbrev pub with_file : Now → ℕ → File → (ℕ → Owner) → Now
+with_file c i f o = record { tab = set_f c.tab i f; own = o; dirty = set_d c.dirty i; tx = true; wr = shut }
 
 -- what a mount starts with
 abbrev pub fresh : Base → Now

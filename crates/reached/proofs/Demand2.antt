@@ -207,8 +207,8 @@ module _ {D : Type 0} {N : ℕ} {w : World} {b : Base} {own : ℕ → Owner} (g 
             record {
               last = al.last;
               header = al.header;
-              first_seq_lem = al.first;
-              last_seq_lem = al.end;
+              first_seq = al.first;
+              last_seq = al.end;
               flags = al.flags;
               bytes = λ n low high.
                   ap (λ (c : ℕ). byte_at w.image c (file_at w.table i) n) pc_is

@@ -72,7 +72,7 @@ flush_pages {N = N} {v = v} {b = b} {own = own} k e n g p =
           let M₁ = mounted_change (flush_change m) tt (loose_writer k.inv m.staged.staged) k.inv.mounted in
           let s = mounted_one M₁ M in
           subst (λ (c : ℕ). Text img' c (b₂.tab i) (g.committed i)) s.pc (subst (λ (f : File). Text img' b.pc f (g.committed i)) (s.tab i)
-          (text_frame v.image img' (g.committed i) (k.inv.mounted.files i) (λ x o. flush_off m x (λ z. (loose_writer k.inv m.staged.staged).no_file_lem i (ap b.own (sym z) ∙ o))) (p.base b k.inv.mounted i h)));
+          (text_frame v.image img' (g.committed i) (k.inv.mounted.files i) (λ x o. flush_off m x (λ z. (loose_writer k.inv m.staged.staged).no_file i (ap b.own (sym z) ∙ o))) (p.base b k.inv.mounted i h)));
     }
   where
     m : Midst N v.image b own v.table v.state.writer

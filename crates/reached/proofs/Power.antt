@@ -69,5 +69,5 @@ module _ {w : World} (k : Held w) (ok : (commit w).answer ≡ Fine) (m : List �
       → r.seq + length out ≤ (file_at w.table r.file).last_seq → Reads w (after_call VolumeMount.mount (afresh w m t s)).world r out
   commit_reads r out i8 some low high =
       let a = (mounted_again k.good ok m t s same).files r.file i8 in
-      let R = held_reads (boot_held later m t s same') (boot_idle later.good m t s same') r out i8 some (omega (arith, a.first_seq_lem)) (omega (arith, a.last_seq_lem)) in
+      let R = held_reads (boot_held later m t s same') (boot_idle later.good m t s same') r out i8 some (omega (arith, a.first_seq)) (omega (arith, a.last_seq)) in
       record { bytes = R.bytes; gives = R.gives; size = R.size; each = λ j h. a.bytes (r.seq + j) (omega arith) (omega arith) ∙ R.each j h }

@@ -89,8 +89,8 @@ byte_at img count f n = byte_by img n (walk count (read_at img) n (last_of f)).e
 pub record SameFile (w v : World) (i : ℕ) : Type 0 where
   pub last : (file_at w.table i).last_page ≡ (file_at v.table i).last_page
   pub header : (file_at w.table i).header ≡ (file_at v.table i).header
-  pub first_seq_lem : (file_at w.table i).first_seq ≡ (file_at v.table i).first_seq
-  pub last_seq_lem : (file_at w.table i).last_seq ≡ (file_at v.table i).last_seq
+  pub first_seq : (file_at w.table i).first_seq ≡ (file_at v.table i).first_seq
+  pub last_seq : (file_at w.table i).last_seq ≡ (file_at v.table i).last_seq
   pub flags : (file_at w.table i).flags ≡ (file_at v.table i).flags
   pub bytes : (n : ℕ) → (file_at w.table i).first_seq ≤ n → n < (file_at w.table i).last_seq
       → byte_at w.image w.state.page_count (file_at w.table i) n ≡ byte_at v.image v.state.page_count (file_at v.table i) n

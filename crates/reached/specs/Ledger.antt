@@ -66,7 +66,7 @@ reverted g = record { files = g.committed; committed = g.committed; opened = 0; 
 unfoldable pub note : Call → World → Ledger → Ledger
 note calls.format w g = on_done (VolumeFormat.format w).answer (λ why. g) nothing
 note calls.mount w g = on_done (VolumeMount.mount w).answer (λ why. g) (reverted g)
-note (calls.open_writer_lem i) w g = on_done (open_writer w i).answer (λ why. g) (with_draft g i (g.files i).bytes)
+note (calls.open_writer i) w g = on_done (open_writer w i).answer (λ why. g) (with_draft g i (g.files i).bytes)
 note (calls.write l ok) w g = on_done (WriterWrite.write w l).answer (λ why. g) (with_draft g g.opened (g.draft ++ l))
 note calls.finish w g =
     on_done (WriterFinish.finish w).answer (λ why. g)
@@ -79,7 +79,7 @@ note calls.commit w g =
     on_done (TransactCommit.commit w).answer (λ why. g)
     (record { files = g.files; committed = g.files; opened = g.opened; draft = g.draft })
 note calls.discard w g = g
-note calls.record_end_lem w g = g
+note calls.record_end w g = g
 note (calls.flags i n ok) w g = g
 note (calls.search i) w g = g
 note calls.left w g = g

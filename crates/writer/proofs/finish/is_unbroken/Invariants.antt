@@ -1,0 +1,19 @@
+-- `writer::finish::is_unbroken` meets its contract: what the rest of the walk says is what the whole says.
+-- Assumes nothing.
+-- what is said from the first page's place is said from the page
+use mathlib.Core.Path.{◌≡◌, refl, sym, ap, ◌∙◌}
+use Rattle.chain.specs.declared.Kind.TheVariants.{Stays, Reaches, Breaks}
+use Rattle.chain.specs.Steps.{read_at}
+use Rattle.chain.specs.Back.{wide}
+use Rattle.writer.specs.Finish.{back_from}
+use Rattle.writer.specs.Inner.{unbroken}
+use Rattle.chain.proofs.Places.{backs_to}
+use Rattle.writer.proofs.Backs.{back_wide, back_stays, back_breaks, back_few, unbroken_step}
+use borrow.Author.Rules.{rules}
+use Rattle.writer.proofs.finish.is_unbroken.Given as goal
+
+abbrev pub invariant-loop-left : goal.invariant-loop-left
+invariant-loop-left l = unbroken (back_from l.count (read_at l.image) l.left (wide l.here)) ≡ unbroken (back_from l.count (read_at l.image) l.n (wide l.initial.here))
+
+abbrev pub decreases-loop-left : goal.decreases-loop-left
+decreases-loop-left l = l.left

@@ -1,0 +1,9 @@
+-- `writer::staging::staged_header` meets its contract.
+-- Assumes nothing.
+use Rattle.writer.specs.Staging.{staged_header}
+use borrow.Author.Rules.{rules}
+use Rattle.writer.proofs.staging.staged_header.Goals as goal
+
+pub returns : goal.returns
+unfolding staged_header
+returns c = rw (c.staged_links-skiplist.ensures, c.kept_boundary.ensures)

@@ -1,0 +1,9 @@
+-- `writer::write::put` meets its contract.
+-- Assumes nothing.
+use Rattle.writer.specs.Staging.{filled_by}
+use borrow.Author.Rules.{rules}
+use Rattle.writer.proofs.write.put.Goals as goal
+
+pub returns : goal.returns
+unfolding filled_by
+returns c = rw c.place.ensures

@@ -1,0 +1,9 @@
+-- `writer::write::stored` meets its contract.
+-- Assumes nothing.
+use Rattle.writer.specs.Staging.{flushed}
+use borrow.Author.Rules.{rules}
+use Rattle.writer.proofs.write.stored.Goals as goal
+
+pub returns : goal.returns
+unfolding flushed
+returns c = rw (c.next_boundary.ensures, c.requires.2)
