@@ -4,31 +4,23 @@
 ghost use Rattle.std.specs.Prelude.{◌≤◌};
 
 use inventory::{FileLine, Inventory};
-use libc::{STDIN_FILENO, STDOUT_FILENO};
+use std::alloc::Global;
+use std::io;
+use std::io::Read;
 
-fn text(bytes: &[u8]) {
-    io::write_all(STDOUT_FILENO, bytes);
-}
-
-fn number(n: u64) {
-    io::print_decimal(STDOUT_FILENO, n);
-}
+// One byte more than the largest image, so that a longer input shows.
+const ROOM: usize = 65537;
 
 // One file's line, or nothing where the file is empty.
-fn print_line(id: u64, line: FileLine) {
-    if line.live {
-        text(b"file ");
-        number(id);
-        text(b" first ");
-        number(line.first as u64);
-        text(b" last ");
-        number(line.last as u64);
-        text(b" flags ");
-        number(line.flags as u64);
-        text(b" pages ");
-        number(line.pages);
-        text(b"\n");
+fn print_line(rt: &impl Print, id: usize, line: FileLine) -> io::Result<()> {
+    if !line.live {
+        return Ok(());
     }
+    let first = line.first;
+    let last = line.last;
+    let flags = line.flags;
+    let pages = line.pages;
+    println!(rt; "file {id} first {first} last {last} flags {flags} pages {pages}")
 }
 
 fn one_if(live: bool) -> u64
@@ -49,51 +41,34 @@ fn count_live(lines: [FileLine; 8]) -> u64 {
     a + b
 }
 
-fn print_files(lines: [FileLine; 8]) {
-    text(b"files ");
-    number(count_live(lines));
-    text(b"\n");
-    print_line(0, lines[0]);
-    print_line(1, lines[1]);
-    print_line(2, lines[2]);
-    print_line(3, lines[3]);
-    print_line(4, lines[4]);
-    print_line(5, lines[5]);
-    print_line(6, lines[6]);
-    print_line(7, lines[7]);
-}
-
-fn print_inventory(inv: Inventory) {
-    if inv.refused != 0 {
-        text(b"refused ");
-        number(inv.refused as u64);
-        text(b"\n");
-        return;
+fn print_files(rt: &impl Print, lines: [FileLine; 8]) -> io::Result<()> {
+    let count = count_live(lines);
+    println!(rt; "files {count}")?;
+    for (id, line) in lines.iter().enumerate() {
+        print_line(rt, id, *line)?;
     }
-    let lines = inv.lines;
-    print_files(lines);
+    Ok(())
 }
 
-// Reads once more, and answers whether something came.
-fn read_some() -> bool {
-    let mut rest = io::buffer();
-    0 < libc::read(STDIN_FILENO, &mut rest)
-}
-
-// A longer input is read to its end, so that whoever writes it is not cut off. A proved loop has to end: no run uses the turns up.
-fn drain() {
-    let mut turns = u64::MAX;
-    while turns > 0 && read_some() {
-        turns -= 1;
+fn print_inventory(rt: &impl Print, inv: Inventory) -> io::Result<()> {
+    let refused = inv.refused;
+    if refused != 0 {
+        return println!(rt; "refused {refused}");
     }
+    print_files(rt, inv.lines)
 }
 
-fn main() {
-    // one byte more than the largest image
-    let mut image = [0u8; 65537];
-    let n = io::read_full(STDIN_FILENO, &mut image);
-    if n == 65537 {
-        drain();
+// What is kept of the input. A longer one is read to its end, so that whoever writes it is not cut off.
+fn read_image<R: Read>(alloc: Global, input: &mut R) -> io::Result<Vec<u8>> {
+    let mut image = Vec::with_capacity(alloc, ROOM)?;
+    input.by_ref().take(ROOM as u64).read_to_end(&mut image)?;
+    if image.len() == ROOM {
+        io::copy(input, &mut io::sink())?;
     }
-    print_inventory(inventory::list_image(&image[..n]));
+    Ok(image)
+}
+
+fn main(rt: HostRuntime) -> io::Result<()> {
+    let image = read_image(rt.alloc(), &mut rt.stdin())?;
+    print_inventory(&rt, inventory::list_image(image.as_slice()))
 }

@@ -5,16 +5,11 @@ mod input;
 
 ghost use Rattle.std.specs.Prelude.{◌≡◌, length};
 
-use answers::world::World;
-use input::Feed;
+use std::io;
+use std::io::{BufRead, BufReader};
 
-// What goes from line to line: the world, where the input stands, and how much of the output is not written yet.
-#[derive(Clone, Copy)]
-struct Run {
-    world: World,
-    feed: Feed,
-    at: usize,
-}
+// How much of the input is read at once.
+const CHUNK: usize = 65536;
 
 // No answer is longer than half of the output buffer.
 const HELD: usize = 65536;
@@ -38,69 +33,47 @@ fn output_buffer() -> [u8; 131072]
 }
 
 // Writes what is held, where it is much or the input is over, and answers how much is held then.
-fn flush(out: &[u8], at: usize, over: bool) -> usize {
-    if at < HELD {
-        if !over {
-            return at;
-        }
+fn flush(rt: &impl Print, out: &[u8], at: usize, over: bool) -> io::Result<usize> {
+    if at < HELD && !over {
+        return Ok(at);
     }
-    io::write_all(1, runs::part_of(out, 0, at));
-    0
+    rt.write_all(runs::part_of(out, 0, at))?;
+    Ok(0)
 }
 
-// One line: read, answered, and written with others.
-fn turn(
+// Each line is read, answered, and written with others.
+fn replay<R: BufRead>(
+    rt: &impl Print,
+    input: &mut R,
+    line: &mut Vec<u8>,
     image: &mut [u8],
     map: &mut [u8],
-    chunk: &mut [u8],
-    line: &mut [u8],
     bytes: &mut [u8],
     out: &mut [u8],
-    run: Run,
-) -> Run {
-    let got = input::next_line(chunk, line, run.feed);
-    let text = runs::part_of(line, 0, got.length);
-    let world = run.world;
-    let done = answers::answer::answer(image, map, text, bytes, out, run.at, world);
-    let world = done.world;
-    let feed = got.feed;
-    Run {
-        world,
-        feed,
-        at: flush(out, done.at, feed.over),
-    }
-}
-
-// A proved loop has to end, and nothing says that the input does: the loop counts its turns down from a number that no run uses up.
-fn replay(
-    image: &mut [u8],
-    map: &mut [u8],
-    chunk: &mut [u8],
-    line: &mut [u8],
-    bytes: &mut [u8],
-    out: &mut [u8],
-) {
-    let world = answers::world::fresh(1, 0, 0);
-    let feed = input::start();
-    let mut run = Run { world, feed, at: 0 };
-    let mut turns = u64::MAX;
-    while turns > 0 {
-        run = turn(image, map, chunk, line, bytes, out, run);
-        if run.feed.over {
-            return;
+) -> io::Result<()> {
+    let mut world = answers::world::fresh(1, 0, 0);
+    let mut at = 0;
+    for _ in 0..u64::MAX {
+        let goes_on = input::next_line(input, line)?;
+        let done = answers::answer::answer(image, map, line.as_slice(), bytes, out, at, world);
+        world = done.world;
+        at = flush(rt, out, done.at, !goes_on)?;
+        if !goes_on {
+            break;
         }
-        turns -= 1;
     }
+    Ok(())
 }
 
-fn main() {
+fn main(rt: HostRuntime) -> io::Result<()> {
+    let alloc = rt.alloc();
+    let mut input = BufReader::with_capacity(alloc, CHUNK, rt.reader())?;
+    let mut line = Vec::with_capacity(alloc, input::ROOM)?;
     let mut image = image_buffer();
     let mut map = map_buffer();
-    let mut chunk = io::large_buffer();
-    let mut line = io::large_buffer();
-    let mut bytes = io::large_buffer();
+    let mut bytes = [0; 65536];
     let mut out = output_buffer();
     replay(
-        &mut image, &mut map, &mut chunk, &mut line, &mut bytes, &mut out,
-    );
+        &rt, &mut input, &mut line, &mut image, &mut map, &mut bytes, &mut out,
+    )
 }
