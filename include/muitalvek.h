@@ -4,7 +4,7 @@
  * Both are the caller's and are lent to each call. Table and state go in by value and come back in the reply: store
  * them after every call, also a refused one. A search (mv_search, mv_turn) changes the state in place instead.
  * A code of 0 is success, any other is a refusal's number (below).
- * Link target/staticlib/libexport.a, which `rt staticlib export` writes.
+ * Link crates/export/out/libexport.a, which `rt lib` in crates/export writes.
  */
 #ifndef MUITALVEK_H
 #define MUITALVEK_H

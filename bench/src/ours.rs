@@ -1,4 +1,4 @@
-//! The proved calls of target/staticlib/libexport.a.
+//! The proved calls of crates/export/out/libexport.a.
 
 use crate::raw::*;
 
