@@ -1,0 +1,7 @@
+-- `export::replies::sought` meets its contract.
+-- Assumes nothing.
+use borrow.Author.Rules.{rules}
+use Rattle.export.proofs.replies.sought.Goals as goal
+
+pub returns : goal.returns
+returns c = rw c.answer_of-reply.ensures
