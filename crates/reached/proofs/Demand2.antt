@@ -140,11 +140,13 @@ module _ {D : Type 0} {N : ℕ} {w : World} {b : Base} {own : ℕ → Owner} (g 
       read : {q n : ℕ} {k : Link} {y : List ℕ} → view img' x ≡ dat q n k y → view img' x ≡ view w.image x → page_of w.image x ≡ page_of img' x
       read v z = sym (view_data w.image x (sym z ∙ v)).bytes ∙ (view_data img' x v).bytes
 
-      on_walk : {l : List ℕ} {a p : ℕ} → Walk (view img') b'.pc a p l → Mem x l → view img' x ≡ view w.image x → page_of w.image x ≡ page_of img' x
+      on_walk : {a : ℕ} {l : List ℕ} {p : ℕ} → Walk (view img') b'.pc a p l → Mem x l → view img' x ≡ view w.image x → page_of w.image x ≡ page_of img' x
       on_walk (st.stop v a) st.here z = read v z
       on_walk (st.root v a) st.here z = read v z
       on_walk (st.step v a c v' d u) st.here z = read v z
       on_walk (st.step v a c v' d u) (st.there m) z = on_walk u m z
+      on_walk (st.stop v a) (there m) z = elim m [ ]
+      on_walk (st.root v a) (there m) z = elim m [ ]
 
       by : {f : File} {l : List ℕ} → FileOk (view img') b'.pc f l → Mem x l → view img' x ≡ view w.image x → page_of w.image x ≡ page_of img' x
       by st.empty m z = absurd (mem_nil m refl)

@@ -71,13 +71,13 @@ record Page (reads : ℕ → Read) (p : PagePointer) (l : List PagePointer) (j :
   pub is : page.page_id ≡ j
   pub stands : reads j ≡ readable page.header
 
-page_of : (reads : ℕ → Read) (p : PagePointer) (l : List PagePointer) (j : ℕ) → reads p.page_id ≡ readable p.header → Stand reads l → Mem j (p.page_id ∷ ids l) → Page reads p l j
-page_of reads p [] j s t k = by (ℕ_discrete j p.page_id)
+page_of_id : (reads : ℕ → Read) (p : PagePointer) (l : List PagePointer) (j : ℕ) → reads p.page_id ≡ readable p.header → Stand reads l → Mem j (p.page_id ∷ ids l) → Page reads p l j
+page_of_id reads p [] j s t k = by (ℕ_discrete j p.page_id)
   where
     by : Dec (j ≡ p.page_id) → Page reads p [] j
     by (yes e) = record { page = p; among = refl; is = sym e; stands = ap reads e ∙ s }
     by (no n) = absurd (mem_nil (mem_tail k n) refl)
-page_of reads p (q ∷ l) j s t k = by (ℕ_discrete j p.page_id) (λ m. page_of reads q l j t.0 t.1 m)
+page_of_id reads p (q ∷ l) j s t k = by (ℕ_discrete j p.page_id) (λ m. page_of_id reads q l j t.0 t.1 m)
   where
     by : Dec (j ≡ p.page_id) → (Mem j (q.page_id ∷ ids l) → Page reads q l j) → Page reads p (q ∷ l) j
     by (yes e) f = record { page = p; among = inl refl; is = sym e; stands = ap reads e ∙ s }
@@ -163,7 +163,7 @@ module _ {N : ℕ} {w : World} {b : Base} {own : ℕ → Owner} (g : Good (Unit 
       -- no other page of the chain holds the number
       page_only : (p : ℕ) (h : DataHeader) → Mem p ((rec_at w.table i).last_page ∷ ids R.older) → read_at w.image p ≡ readable h → holds h n ≡ true → p ≡ (page n).page_id
       page_only p h k s t =
-          let x = page_of (read_at img) P R.older p stands_last R.chain.stand k in
+          let x = page_of_id (read_at img) P R.older p stands_last R.chain.stand k in
           let y : readable x.page.header ≡ readable h = sym x.stands ∙ s in
           let z : x.page.header ≡ h = cc in
           let q = holds_bounds h n t in

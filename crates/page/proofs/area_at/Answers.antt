@@ -4,7 +4,6 @@ use Rattle.runs.specs.Runs.{part_of}
 use Prim.Native.Nat.{ℕ}
 use mathlib.Core.List.{List}
 use mathlib.Core.Path.{ap, ◌∙◌}
-use borrow.Author.Rules.{rules}
 use Rattle.page.proofs.area_at.Goals as goal
 
 pub returns : goal.returns

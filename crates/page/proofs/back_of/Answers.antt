@@ -2,7 +2,6 @@
 -- Assumes nothing.
 use mathlib.Core.Path.{sym, ap, ◌∙◌}
 use Rattle.page.specs.Page.{gives_back}
-use borrow.Author.Rules.{rules}
 use Rattle.page.proofs.Headers.{back_reads, back_missing}
 use Rattle.page.proofs.back_of.Goals as goal
 

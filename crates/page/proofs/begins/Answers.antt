@@ -2,7 +2,6 @@
 -- Assumes nothing.
 use Rattle.page.specs.Page.{begins}
 use borrow.Author.Tests.{eq-eqb, ne_eqb}
-use borrow.Author.Rules.{rules}
 use Rattle.page.proofs.begins.Goals as goal
 
 pub returns-then-pg-ne256 : goal.returns-then-pg-ne256

@@ -10,7 +10,6 @@ use native.Mathlib.Nat.{add-zero}
 use native.Mathlib.Omega.{arith}
 use Prim.Native.Nat.{ℕ, ◌+◌, ◌-◌, ◌*◌}
 use mathlib.Core.Path.{◌≡◌, ap, sym, ◌∙◌}
-use borrow.Author.Rules.{rules}
 use Rattle.page.proofs.erase.Goals as goal
 
 pub returns-then-p-image : goal.returns-then-p-image

@@ -1,7 +1,6 @@
 -- `page::fields_of` meets its contract.
 -- Assumes nothing.
 use Rattle.page.specs.Page.{fields_of}
-use borrow.Author.Rules.{rules}
 use Rattle.page.proofs.fields_of.Goals as goal
 
 pub returns : goal.returns

@@ -1,7 +1,6 @@
 -- `page::header_bytes` meets its contract.
 -- Assumes nothing.
 use Rattle.page.specs.Page.{header_bytes}
-use borrow.Author.Rules.{rules}
 use Rattle.page.proofs.header_bytes.Goals as goal
 
 pub returns : goal.returns

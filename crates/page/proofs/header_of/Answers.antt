@@ -4,7 +4,6 @@ use Rattle.page.specs.Page.{readable, gives}
 use Rattle.page.specs.declared.DataHeader.{DataHeader}
 use Rattle.page.proofs.Headers.{header_reads, header_begins, header_pair}
 use mathlib.Core.Path.{sym, ap, ◌∙◌}
-use borrow.Author.Rules.{rules}
 use Rattle.page.proofs.header_of.Goals as goal
 
 pub returns-then-pair_reads : goal.returns-then-pair_reads

@@ -1,6 +1,5 @@
 -- `page::links_of` meets its contract.
 -- Assumes nothing.
-use borrow.Author.Rules.{rules}
 use Rattle.page.proofs.links_of.Goals as goal
 
 pub returns : goal.returns

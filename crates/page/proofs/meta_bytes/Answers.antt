@@ -1,7 +1,6 @@
 -- `page::meta_bytes` meets its contract.
 -- Assumes nothing.
 use Rattle.page.specs.Page.{meta_bytes}
-use borrow.Author.Rules.{rules}
 use Rattle.page.proofs.meta_bytes.Goals as goal
 
 pub returns : goal.returns

@@ -2,7 +2,6 @@
 -- Assumes nothing.
 use Rattle.page.proofs.Headers.{meta_reads, meta_missing}
 use mathlib.Core.Path.{sym, ◌∙◌}
-use borrow.Author.Rules.{rules}
 use Rattle.page.proofs.meta_of.Goals as goal
 
 pub returns-then-begins : goal.returns-then-begins

@@ -4,7 +4,6 @@ use Rattle.page.specs.Page.{page_of}
 use Rattle.runs.specs.Runs.{part}
 use borrow.Author.Tests.{lt-ltb, le-ltb}
 use native.Mathlib.Nat.{add-sub_cancel_left}
-use borrow.Author.Rules.{rules}
 use Rattle.page.proofs.page_of.Goals as goal
 
 pub returns-then-p-image : goal.returns-then-p-image

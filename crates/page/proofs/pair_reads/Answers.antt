@@ -2,7 +2,6 @@
 -- Assumes nothing.
 use Rattle.page.specs.Page.{pair_reads}
 use borrow.Author.Tests.{eq-eqb, ne_eqb, le-leb, lt-leb}
-use borrow.Author.Rules.{rules}
 use Rattle.page.proofs.pair_reads.Goals as goal
 
 pub returns-then-u16_at-n : goal.returns-then-u16_at-n

@@ -6,7 +6,6 @@ use Rattle.runs.proofs.Laws.{part_of_out}
 use Prim.Native.Nat.{◌+◌}
 use native.Mathlib.Omega.{arith}
 use mathlib.Core.Path.{sym}
-use borrow.Author.Rules.{rules}
 use Rattle.page.proofs.payload_at.Goals as goal
 
 pub returns-then-off-gt224 : goal.returns-then-off-gt224

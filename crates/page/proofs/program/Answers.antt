@@ -6,7 +6,6 @@ use Rattle.page.proofs.Laws.{stored_in, stored_out, stored_past}
 use native.Mathlib.Omega.{arith}
 use Prim.Native.Nat.{◌+◌, ◌*◌}
 use mathlib.Core.Path.{sym, ◌∙◌}
-use borrow.Author.Rules.{rules}
 use Rattle.page.proofs.program.Goals as goal
 
 pub returns-then-image-p : goal.returns-then-image-p

@@ -2,7 +2,6 @@
 -- Assumes nothing.
 use Rattle.page.specs.Page.{meta_of}
 use mathlib.Core.Path.{ap, ◌∙◌}
-use borrow.Author.Rules.{rules}
 use Rattle.page.proofs.read_meta.Goals as goal
 
 pub returns : goal.returns

@@ -4,7 +4,6 @@ use Rattle.page.specs.Store.{program, stored}
 use Prim.Native.Nat.{ℕ}
 use mathlib.Core.List.{List}
 use mathlib.Core.Path.{ap, ap₂, ◌∙◌}
-use borrow.Author.Rules.{rules}
 use Rattle.page.proofs.store_data.Goals as goal
 
 pub returns : goal.returns

@@ -1,0 +1,11 @@
+-- `script::text::digit` meets its contract.
+-- Assumes nothing.
+use borrow.Author.Rules.{rules}
+use borrow.Author.Tests.{lt-ltb, le-ltb}
+use Rattle.script.proofs.text.digit.Goals as goal
+
+pub returns-then-n-lt10 : goal.returns-then-n-lt10
+returns-then-n-lt10 c = rw (lt-ltb _ _ c.if-n-lt10.true)
+
+pub returns-else-n-lt10 : goal.returns-else-n-lt10
+returns-else-n-lt10 c = rw (le-ltb _ _ c.if-n-lt10.false)
