@@ -28,7 +28,7 @@ use Rattle.reader.specs.Skip.{skipped_numbers}
 use Rattle.reader.proofs.Numbers.{read_same, located_same, skipped_same}
 use Rattle.script.specs.declared.command.Command.{Command}
 use Rattle.script.specs.declared.command.Command.TheVariants as C
-use Rattle.script.specs.contracts.command.Command.{the_type}
+use Rattle.script.specs.declared.command.Setup.{Setup}
 use Rattle.script.specs.Text.{ascii, Spot, puts}
 use Rattle.script.specs.Say as say
 use Rattle.answers.specs.declared.world.World.{World}
@@ -79,9 +79,9 @@ drop_least n l = elim (dec_le n (length l)) [
 ]
 
 -- a command that is no setup is one on what is lent
-pub other : (c : Command) (i m b : List ℕ) (w : World) (p : Spot) → OneOf (0 ∷ 1 ∷ 3 ∷ 4 ∷ 5 ∷ 6 ∷ 7 ∷ 8 ∷ 9 ∷ []) (tag_of the_type c) → on_command c i m b w p ≡ on_buffers c i m b w p
+pub other : (c : Command) (i m b : List ℕ) (w : World) (p : Spot) → ((what : Setup) → c ≡ C.Setup what → ⊥) → on_command c i m b w p ≡ on_buffers c i m b w p
 unfolding on_command
-other (C.Setup what) i m b w p h = absurd (miss (0 ∷ 1 ∷ 3 ∷ 4 ∷ 5 ∷ 6 ∷ 7 ∷ 8 ∷ 9 ∷ []) 2 tt h)
+other (C.Setup what) i m b w p h = absurd (h what refl)
 other (C.Volume what) i m b w p h = refl
 other (C.Reading what) i m b w p h = refl
 other (C.Searching what) i m b w p h = refl

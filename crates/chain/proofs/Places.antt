@@ -14,7 +14,7 @@ use Rattle.chain.specs.declared.Place.{Place}
 use Rattle.chain.specs.declared.Kind.{Kind}
 use Rattle.chain.specs.declared.Kind.TheVariants.{Stays, Reaches, Breaks}
 use Rattle.chain.specs.declared.BackStep.{BackStep}
-use Rattle.chain.specs.Links.{start, link}
+use Rattle.chain.specs.Links.{start}
 use Rattle.chain.specs.Steps.{Way, halt, lost, via, falls, back_rule, Stepped, stays, reaches, breaks, entered, stepped, lower_of, lower, step, at, damaged, Trace, stop, through, follow, along, go, trace, walk}
 use Rattle.chain.specs.Back.{place_of, wide, told_back, thinned, thin, walk_back}
 use Rattle.chain.proofs.Rules.{is_page_lem, back_falling}

@@ -3,7 +3,6 @@
 -- the test of the link
 use mathlib.Core.Path.{◌≡◌, ◌∙◌, ap}
 use Prim.Native.Nat.{ℕ}
-use borrow.Author.Rules.{rules}
 use lib.Dec.{eqb}
 use Rattle.seq.specs.Ids.{none}
 use Rattle.chain.proofs.Places.{back_told_stays, back_told_reaches, back_told_breaks}

@@ -2,7 +2,6 @@
 -- Assumes nothing.
 use Prim.Native.Nat.{◌≤◌}
 use native.Mathlib.Omega.{arith}
-use borrow.Author.Rules.{rules}
 use Rattle.seq.proofs.Laws.{level_le}
 use Rattle.chain.proofs.link_toward.Goals as goal
 use Rattle.chain.proofs.link_toward.Goals.{After-link_index-i}

@@ -1,7 +1,6 @@
 -- `chain::links_after` meets its contract: the links are filled up to the index that was found.
 -- Assumes nothing.
 use mathlib.Core.Path.{◌∙◌}
-use borrow.Author.Rules.{rules}
 use Rattle.chain.specs.Links.{links_after}
 use Rattle.chain.proofs.links_after.Goals as goal
 

@@ -2,7 +2,6 @@
 -- Assumes nothing.
 -- the id is a page
 use mathlib.Core.Path.{◌≡◌, sym, ◌∙◌, ap}
-use borrow.Author.Rules.{rules}
 use Rattle.seq.specs.Ids.{none}
 use Rattle.seq.specs.declared.ids.PageOption.TheVariants.{Some, None}
 use Rattle.page.specs.Page.{gives}

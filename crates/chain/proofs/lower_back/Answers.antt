@@ -3,7 +3,6 @@
 -- the test of the id
 use mathlib.Core.Path.{◌≡◌, sym, ◌∙◌, ap}
 use Prim.Native.Nat.{ℕ}
-use borrow.Author.Rules.{rules}
 use lib.Dec.{eqb}
 use Rattle.seq.specs.Ids.{none}
 use Rattle.page.specs.Page.{gives_back}

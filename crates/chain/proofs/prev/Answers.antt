@@ -2,7 +2,6 @@
 -- Assumes nothing.
 -- what the step from the place says of the page
 use mathlib.Core.Path.{◌≡◌, sym, ◌∙◌, ap}
-use borrow.Author.Rules.{rules}
 use Rattle.page.specs.Page.{gives}
 use Rattle.page.specs.declared.DataHeader.{DataHeader}
 use Rattle.page.specs.declared.HeaderRead.{HeaderRead}

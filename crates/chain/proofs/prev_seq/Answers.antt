@@ -3,16 +3,14 @@
 -- Assumes nothing.
 -- a turn that read a page: the trace from there, and an earlier start
 use mathlib.Core.Path.{◌≡◌, ◌∙◌}
-use Prim.Native.Nat.{◌+◌, ◌≤◌, ◌<◌}
+use Prim.Native.Nat.{◌<◌}
 use native.Mathlib.Omega.{arith}
-use borrow.Author.Rules.{rules}
 use Rattle.chain.specs.declared.PagePointer.{PagePointer}
 use Rattle.chain.specs.Links.{start}
-use Rattle.chain.specs.Steps.{read_at, seek_rule, through, trace, seek}
-use Rattle.chain.specs.Seek.{found}
+use Rattle.chain.specs.Steps.{read_at, seek_rule, through, trace}
 use Rattle.chain.proofs.Rules.{seek_falling}
 use Rattle.chain.proofs.Traces.{stays_trace, breaks_trace, reaches_trace}
-use Rattle.chain.proofs.Steps.{seek_stays, seek_reaches, seek_breaks, after, after_first, after_stays, after_breaks, after_reaches}
+use Rattle.chain.proofs.Steps.{seek_stays, seek_reaches, seek_breaks, after_first, after_stays, after_breaks, after_reaches}
 use Rattle.chain.proofs.prev_seq.Goals as goal
 use Rattle.chain.proofs.prev_seq.Goals.{After-header-1}
 

@@ -2,17 +2,12 @@
 -- from the first page. The start falls, so that no more headers are read than the first start says, which fits.
 -- Assumes nothing.
 -- a turn that read a page: the trace from there, and an earlier start
-use mathlib.Core.Path.{◌≡◌, ◌∙◌}
-use Prim.Native.Nat.{◌+◌, ◌≤◌, ◌<◌}
-use native.Mathlib.Omega.{arith}
-use borrow.Author.Rules.{rules}
-use Rattle.chain.specs.declared.PagePointer.{PagePointer}
+use mathlib.Core.Path.{◌≡◌}
+use Prim.Native.Nat.{◌+◌, ◌≤◌}
 use Rattle.chain.specs.Links.{start}
-use Rattle.chain.specs.Steps.{read_at, seek_rule, through, trace, seek}
+use Rattle.chain.specs.Steps.{read_at, seek_rule, seek}
 use Rattle.chain.specs.Seek.{found}
-use Rattle.chain.proofs.Rules.{seek_falling}
-use Rattle.chain.proofs.Traces.{stays_trace, breaks_trace, reaches_trace}
-use Rattle.chain.proofs.Steps.{seek_stays, seek_reaches, seek_breaks, after, after_first, after_stays, after_breaks, after_reaches}
+use Rattle.chain.proofs.Steps.{after}
 use Rattle.chain.proofs.prev_seq.Given as goal
 
 abbrev pub invariant-loop-here : goal.invariant-loop-here

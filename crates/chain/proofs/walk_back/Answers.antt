@@ -1,12 +1,11 @@
 -- `chain::walk_back` meets its contract: the walk ends where the walk from the page at hand ends.
 -- Assumes nothing.
 -- what the step of a turn says
-use mathlib.Core.Path.{◌≡◌, refl, sym, ◌∙◌, ap}
-use borrow.Author.Rules.{rules}
+use mathlib.Core.Path.{◌≡◌, sym, ◌∙◌, ap}
 use Rattle.chain.specs.declared.Kind.{Kind}
 use Rattle.chain.specs.declared.Kind.TheVariants.{Stays, Reaches, Breaks}
 use Rattle.chain.specs.Steps.{read_at, Trace}
-use Rattle.chain.specs.Back.{walk_back, reached_by}
+use Rattle.chain.specs.Back.{reached_by}
 use Rattle.chain.proofs.Places.{SaysBack, says_back}
 use Rattle.chain.proofs.walk_back.Goals as goal
 use Rattle.chain.proofs.walk_back.Goals.{After-back-next}

@@ -1,13 +1,9 @@
 -- `chain::walk_back` meets its contract: the walk ends where the walk from the page at hand ends.
 -- Assumes nothing.
 -- what the step of a turn says
-use mathlib.Core.Path.{◌≡◌, refl, sym, ◌∙◌, ap}
-use borrow.Author.Rules.{rules}
-use Rattle.chain.specs.declared.Kind.{Kind}
-use Rattle.chain.specs.declared.Kind.TheVariants.{Stays, Reaches, Breaks}
-use Rattle.chain.specs.Steps.{read_at, Trace}
+use mathlib.Core.Path.{◌≡◌}
+use Rattle.chain.specs.Steps.{read_at}
 use Rattle.chain.specs.Back.{walk_back, reached_by}
-use Rattle.chain.proofs.Places.{SaysBack, says_back}
 use Rattle.chain.proofs.walk_back.Given as goal
 
 abbrev pub invariant-loop-here : goal.invariant-loop-here

@@ -1,12 +1,9 @@
 -- `map::count_all` meets its contract. The invariant: what was counted, and what is free in the rest, is what is free.
 -- Assumes nothing.
-use Rattle.map.proofs.Laws.{count_split, count_le}
 use Rattle.map.specs.Map.{free_count}
-use Rattle.runs.proofs.Laws.{rest_drop}
-use lib.ListN.{length, take, drop, length-take, length-drop}
-use native.Mathlib.Omega.{arith}
-use mathlib.Core.Path.{◌≡◌, ap}
-use Prim.Native.Nat.{◌≤◌, ◌+◌, ◌-◌}
+use lib.ListN.{length}
+use mathlib.Core.Path.{◌≡◌}
+use Prim.Native.Nat.{◌≤◌, ◌+◌}
 use Rattle.map.proofs.count_all.Given as goal
 
 abbrev pub invariant-loop-rest : goal.invariant-loop-rest

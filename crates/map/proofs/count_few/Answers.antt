@@ -3,11 +3,9 @@
 use Rattle.map.proofs.Laws.{one_le}
 use Rattle.map.proofs.Turns.{count_more}
 use Rattle.map.specs.Map.{free_count}
-use borrow.Author.Rules.{rules}
-use lib.ListN.{length, drop, get_or, drop_of_length-le}
+use lib.ListN.{drop, get_or, drop_of_length-le}
 use native.Mathlib.Omega.{arith}
 use mathlib.Core.Path.{◌≡◌, ap}
-use Prim.Native.Nat.{◌≤◌, ◌+◌, ◌-◌}
 use Rattle.map.proofs.count_few.Goals as goal
 
 pub loop-i-init : goal.loop-i-init

@@ -1,12 +1,8 @@
 -- `map::count_few` meets its contract.
 -- Assumes nothing.
-use Rattle.map.proofs.Laws.{one_le}
-use Rattle.map.proofs.Turns.{count_more}
 use Rattle.map.specs.Map.{free_count}
-use borrow.Author.Rules.{rules}
-use lib.ListN.{length, drop, get_or, drop_of_length-le}
-use native.Mathlib.Omega.{arith}
-use mathlib.Core.Path.{◌≡◌, ap}
+use lib.ListN.{length, drop}
+use mathlib.Core.Path.{◌≡◌}
 use Prim.Native.Nat.{◌≤◌, ◌+◌, ◌-◌}
 use Rattle.map.proofs.count_few.Given as goal
 

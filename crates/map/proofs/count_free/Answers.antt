@@ -6,7 +6,6 @@ use lib.ListN.{take, length-take}
 use native.Mathlib.Omega.{arith}
 use mathlib.Core.Path.{ap, ◌∙◌}
 use Prim.Native.Nat.{ℕ}
-use borrow.Author.Rules.{rules}
 use Rattle.map.proofs.count_free.Goals as goal
 
 pub slice_bounds-count_all-end : goal.slice_bounds-count_all-end

@@ -6,7 +6,6 @@ use mathlib.Core.Path.{ap, ◌∙◌}
 use native.Mathlib.Nat.{sub-zero}
 use lib.ListN.{take}
 use Rattle.map.specs.Map.{first_free, alloc_numbers}
-use borrow.Author.Rules.{rules}
 use Rattle.map.proofs.find_free.Goals as goal
 
 pub returns-then-a-n : goal.returns-then-a-n

@@ -3,10 +3,10 @@
 use Rattle.map.proofs.Turns.{first_more}
 use Rattle.map.specs.Map.{first_free}
 use borrow.Author.Tests.{eq-eqb, ne_eqb}
-use lib.ListN.{length, drop, drop_of_length-le}
+use lib.ListN.{drop, drop_of_length-le}
 use native.Mathlib.Omega.{arith}
 use mathlib.Core.Path.{◌≡◌, ap, ◌∙◌}
-use Prim.Native.Nat.{◌≤◌, ◌+◌, ◌-◌}
+use Prim.Native.Nat.{◌+◌}
 use Rattle.map.proofs.first_free.Goals as goal
 
 pub loop-i-init : goal.loop-i-init

@@ -1,11 +1,8 @@
 -- `map::first_free` meets its contract.
 -- Assumes nothing.
-use Rattle.map.proofs.Turns.{first_more}
 use Rattle.map.specs.Map.{first_free}
-use borrow.Author.Tests.{eq-eqb, ne_eqb}
-use lib.ListN.{length, drop, drop_of_length-le}
-use native.Mathlib.Omega.{arith}
-use mathlib.Core.Path.{◌≡◌, ap, ◌∙◌}
+use lib.ListN.{length, drop}
+use mathlib.Core.Path.{◌≡◌}
 use Prim.Native.Nat.{◌≤◌, ◌+◌, ◌-◌}
 use Rattle.map.proofs.first_free.Given as goal
 

@@ -2,7 +2,6 @@
 -- Assumes nothing.
 use lib.Seq.{set_out}
 use mathlib.Core.Path.{sym}
-use borrow.Author.Rules.{rules}
 use Rattle.map.proofs.mark.Goals as goal
 
 pub returns-else-i-m : goal.returns-else-i-m

@@ -3,12 +3,11 @@
 use Rattle.map.proofs.Turns.{at_seam}
 use Rattle.map.specs.Map.{unheld, released}
 use Rattle.runs.proofs.Laws.{copy_more, copy_all}
-use borrow.Author.Rules.{rules}
-use lib.ListN.{length, take, drop, get_or, length-set, length-map, get_or-map}
+use lib.ListN.{length, get_or, length-set, length-map, get_or-map}
 use native.Mathlib.Omega.{arith}
-use mathlib.Core.List.{List, ◌++◌, map}
+use mathlib.Core.List.{List, map}
 use mathlib.Core.Path.{◌≡◌, refl, sym, ap, ◌∙◌}
-use Prim.Native.Nat.{ℕ, ◌≤◌, ◌<◌, ◌+◌, ◌-◌}
+use Prim.Native.Nat.{ℕ, ◌<◌}
 use Rattle.map.proofs.release.Goals as goal
 
 pub loop-i-init : goal.loop-i-init

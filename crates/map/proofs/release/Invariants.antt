@@ -1,14 +1,10 @@
 -- `map::release` meets its contract.
 -- Assumes nothing.
-use Rattle.map.proofs.Turns.{at_seam}
-use Rattle.map.specs.Map.{unheld, released}
-use Rattle.runs.proofs.Laws.{copy_more, copy_all}
-use borrow.Author.Rules.{rules}
-use lib.ListN.{length, take, drop, get_or, length-set, length-map, get_or-map}
-use native.Mathlib.Omega.{arith}
-use mathlib.Core.List.{List, ◌++◌, map}
-use mathlib.Core.Path.{◌≡◌, refl, sym, ap, ◌∙◌}
-use Prim.Native.Nat.{ℕ, ◌≤◌, ◌<◌, ◌+◌, ◌-◌}
+use Rattle.map.specs.Map.{unheld}
+use lib.ListN.{length, take, drop}
+use mathlib.Core.List.{◌++◌, map}
+use mathlib.Core.Path.{◌≡◌}
+use Prim.Native.Nat.{◌≤◌, ◌-◌}
 use Rattle.map.proofs.release.Given as goal
 
 abbrev pub invariant-loop-i : goal.invariant-loop-i

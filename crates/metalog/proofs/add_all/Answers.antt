@@ -4,7 +4,6 @@ use Rattle.metalog.proofs.Laws.{entries_more}
 use Rattle.metalog.specs.declared.Replay.{Replay}
 use Rattle.metalog.specs.Log.{entries, add, adds}
 use Rattle.runs.proofs.Laws.{rest_drop}
-use borrow.Author.Rules.{rules}
 use lib.ListN.{length, take, drop, length-take, length-drop}
 use native.Mathlib.Omega.{arith}
 use mathlib.Core.List.{List}

@@ -1,15 +1,9 @@
 -- `metalog::add_all` meets its contract.
 -- Assumes nothing.
-use Rattle.metalog.proofs.Laws.{entries_more}
-use Rattle.metalog.specs.declared.Replay.{Replay}
-use Rattle.metalog.specs.Log.{entries, add, adds}
-use Rattle.runs.proofs.Laws.{rest_drop}
-use borrow.Author.Rules.{rules}
-use lib.ListN.{length, take, drop, length-take, length-drop}
-use native.Mathlib.Omega.{arith}
-use mathlib.Core.List.{List}
-use mathlib.Core.Path.{◌≡◌, refl, sym, ap, ap₂, ◌∙◌}
-use Prim.Native.Nat.{ℕ, ◌≤◌, ◌-◌, ◌*◌}
+use Rattle.metalog.specs.Log.{entries, adds}
+use lib.ListN.{length}
+use mathlib.Core.Path.{◌≡◌}
+use Prim.Native.Nat.{◌≤◌, ◌*◌}
 use Rattle.metalog.proofs.add_all.Given as goal
 
 abbrev pub invariant-loop-k : goal.invariant-loop-k

@@ -1,6 +1,5 @@
 -- `metalog::add_entry` meets its contract.
 -- Assumes nothing.
-use borrow.Author.Rules.{rules}
 use Rattle.metalog.proofs.add_entry.Goals as goal
 
 pub returns : goal.returns

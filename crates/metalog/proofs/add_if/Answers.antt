@@ -1,6 +1,5 @@
 -- `metalog::add_if` meets its contract.
 -- Assumes nothing.
-use borrow.Author.Rules.{rules}
 use Rattle.metalog.proofs.add_if.Goals as goal
 
 pub returns-then-d : goal.returns-then-d

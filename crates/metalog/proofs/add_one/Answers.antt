@@ -1,6 +1,5 @@
 -- `metalog::add_one` meets its contract.
 -- Assumes nothing.
-use borrow.Author.Rules.{rules}
 use Rattle.metalog.proofs.add_one.Goals as goal
 
 pub returns : goal.returns

@@ -5,7 +5,6 @@ use Rattle.metalog.specs.declared.Run.{Run}
 use Rattle.metalog.specs.Run.{run_stores}
 use Rattle.page.specs.Store.{ran}
 use mathlib.Core.Path.{ap, ◌∙◌}
-use borrow.Author.Rules.{rules}
 use Rattle.metalog.proofs.append_batch.Goals as goal
 
 pub append_run-requires : goal.append_run-requires

@@ -1,7 +1,6 @@
 -- `metalog::area` meets its contract.
 -- Assumes nothing.
 use Rattle.metalog.specs.Log.{area_of}
-use borrow.Author.Rules.{rules}
 use Rattle.metalog.proofs.area.Goals as goal
 
 pub returns : goal.returns

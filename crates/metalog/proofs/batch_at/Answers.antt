@@ -9,7 +9,6 @@ use mathlib.Core.Bool.{cond}
 use mathlib.Core.Path.{◌≡◌, sym, ◌∙◌}
 use Prim.Native.Nat.{◌+◌, ◌*◌}
 use borrow.Author.Tests.{eq-eqb, ne_eqb, lt-ltb, le-ltb, le-leb, lt-leb}
-use borrow.Author.Rules.{rules}
 use Rattle.metalog.proofs.batch_at.Goals as goal
 use Rattle.metalog.proofs.batch_at.Goals.{After-pair_good}
 

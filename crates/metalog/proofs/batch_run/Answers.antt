@@ -8,7 +8,7 @@ use lib.ListN.{get_or}
 use mathlib.Core.Bool.{false}
 use native.Mathlib.Omega.{arith}
 use mathlib.Core.Path.{◌≡◌, refl, sym, ap, ◌∙◌}
-use Prim.Native.Nat.{ℕ, ◌≤◌, ◌+◌, ◌-◌}
+use Prim.Native.Nat.{ℕ, ◌+◌, ◌-◌}
 use Rattle.metalog.proofs.batch_run.Goals as goal
 
 pub loop-i-init : goal.loop-i-init

@@ -1,14 +1,8 @@
 -- `metalog::batch_run` meets its contract.
 -- Assumes nothing.
-use Rattle.metalog.proofs.Runs.{run_more, added_few}
-use Rattle.metalog.specs.declared.Run.{Run}
-use Rattle.metalog.specs.Batch.{entry_for}
-use Rattle.metalog.specs.Run.{added_if, run_from, run_of}
-use lib.ListN.{get_or}
-use mathlib.Core.Bool.{false}
-use native.Mathlib.Omega.{arith}
-use mathlib.Core.Path.{◌≡◌, refl, sym, ap, ◌∙◌}
-use Prim.Native.Nat.{ℕ, ◌≤◌, ◌+◌, ◌-◌}
+use Rattle.metalog.specs.Run.{run_from}
+use mathlib.Core.Path.{◌≡◌}
+use Prim.Native.Nat.{◌≤◌, ◌-◌}
 use Rattle.metalog.proofs.batch_run.Given as goal
 
 abbrev pub invariant-loop-i : goal.invariant-loop-i

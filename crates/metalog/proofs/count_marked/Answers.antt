@@ -2,13 +2,12 @@
 -- Assumes nothing.
 use Rattle.metalog.proofs.Runs.{marked_more, one_le, one_more, all_counted}
 use Rattle.metalog.specs.Batch.{marked_from, marked}
-use borrow.Author.Rules.{rules}
 use lib.ListN.{get_or}
 use mathlib.Core.Bool.{false, cond}
 use native.Mathlib.Nat.{zero-add}
 use native.Mathlib.Omega.{arith}
 use mathlib.Core.Path.{◌≡◌, ap}
-use Prim.Native.Nat.{ℕ, ◌≤◌, ◌+◌, ◌-◌}
+use Prim.Native.Nat.{ℕ, ◌-◌}
 use Rattle.metalog.proofs.count_marked.Goals as goal
 
 pub loop-i-init : goal.loop-i-init

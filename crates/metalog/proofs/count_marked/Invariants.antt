@@ -1,14 +1,8 @@
 -- `metalog::count_marked` meets its contract.
 -- Assumes nothing.
-use Rattle.metalog.proofs.Runs.{marked_more, one_le, one_more, all_counted}
-use Rattle.metalog.specs.Batch.{marked_from, marked}
-use borrow.Author.Rules.{rules}
-use lib.ListN.{get_or}
-use mathlib.Core.Bool.{false, cond}
-use native.Mathlib.Nat.{zero-add}
-use native.Mathlib.Omega.{arith}
-use mathlib.Core.Path.{◌≡◌, ap}
-use Prim.Native.Nat.{ℕ, ◌≤◌, ◌+◌, ◌-◌}
+use Rattle.metalog.specs.Batch.{marked_from}
+use mathlib.Core.Path.{◌≡◌}
+use Prim.Native.Nat.{◌≤◌, ◌+◌, ◌-◌}
 use Rattle.metalog.proofs.count_marked.Given as goal
 
 abbrev pub invariant-loop-i : goal.invariant-loop-i

@@ -4,11 +4,10 @@
 use Rattle.metalog.proofs.Laws.{Room, batch_room, further, further_none, end_more, end_end, end_bad}
 use Rattle.metalog.specs.Log.{log_of, end_of}
 use Rattle.runs.proofs.Laws.{rest_drop}
-use borrow.Author.Rules.{rules}
 use lib.ListN.{length, take, drop, length-take, length-drop}
 use native.Mathlib.Omega.{arith}
 use mathlib.Core.List.{List}
-use mathlib.Core.Path.{◌≡◌, sym, ap, ◌∙◌}
+use mathlib.Core.Path.{sym, ap, ◌∙◌}
 use Prim.Native.Nat.{ℕ, ◌≤◌, ◌+◌, ◌-◌, ◌*◌}
 use Rattle.metalog.proofs.end_of.Goals as goal
 use Rattle.metalog.proofs.end_of.Goals.{In-Entries}

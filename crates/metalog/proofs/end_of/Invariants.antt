@@ -1,15 +1,11 @@
 -- `metalog::end_of` meets its contract.
 -- Assumes nothing.
 -- a batch's entries are there
-use Rattle.metalog.proofs.Laws.{Room, batch_room, further, further_none, end_more, end_end, end_bad}
+use Rattle.metalog.proofs.Laws.{further}
 use Rattle.metalog.specs.Log.{log_of, end_of}
-use Rattle.runs.proofs.Laws.{rest_drop}
-use borrow.Author.Rules.{rules}
-use lib.ListN.{length, take, drop, length-take, length-drop}
-use native.Mathlib.Omega.{arith}
-use mathlib.Core.List.{List}
-use mathlib.Core.Path.{◌≡◌, sym, ap, ◌∙◌}
-use Prim.Native.Nat.{ℕ, ◌≤◌, ◌+◌, ◌-◌, ◌*◌}
+use lib.ListN.{length}
+use mathlib.Core.Path.{◌≡◌}
+use Prim.Native.Nat.{◌≤◌, ◌+◌}
 use Rattle.metalog.proofs.end_of.Given as goal
 
 abbrev pub invariant-loop-n : goal.invariant-loop-n

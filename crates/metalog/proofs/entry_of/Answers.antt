@@ -1,7 +1,6 @@
 -- `metalog::entry_of` meets its contract.
 -- Assumes nothing.
 use Rattle.metalog.specs.Log.{entry_of}
-use borrow.Author.Rules.{rules}
 use Rattle.metalog.proofs.entry_of.Goals as goal
 
 pub returns : goal.returns

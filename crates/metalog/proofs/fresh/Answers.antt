@@ -1,6 +1,5 @@
 -- `metalog::fresh` meets its contract.
 -- Assumes nothing.
-use borrow.Author.Rules.{rules}
 use Rattle.metalog.proofs.fresh.Goals as goal
 
 pub returns : goal.returns

@@ -2,7 +2,6 @@
 -- Assumes nothing.
 use Rattle.metalog.specs.Log.{sound}
 use borrow.Author.Tests.{eq-eqb, ne_eqb, lt-ltb, le-ltb}
-use borrow.Author.Rules.{rules}
 use Rattle.metalog.proofs.is_sound.Goals as goal
 
 pub returns-then-e-ge8 : goal.returns-then-e-ge8

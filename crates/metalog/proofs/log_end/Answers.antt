@@ -4,7 +4,6 @@ use Rattle.metalog.specs.Log.{log_end, log_of, end_of, end_numbers}
 use mathlib.Core.List.{List}
 use mathlib.Core.Path.{ap, ◌∙◌}
 use Prim.Native.Nat.{ℕ}
-use borrow.Author.Rules.{rules}
 use Rattle.metalog.proofs.log_end.Goals as goal
 
 pub returns : goal.returns

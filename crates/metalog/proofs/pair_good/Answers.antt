@@ -2,7 +2,6 @@
 -- Assumes nothing.
 use Rattle.metalog.specs.Log.{good_pair}
 use borrow.Author.Tests.{eq-eqb, ne_eqb, le-leb, lt-leb}
-use borrow.Author.Rules.{rules}
 use Rattle.metalog.proofs.pair_good.Goals as goal
 
 pub returns-then-m-n : goal.returns-then-m-n

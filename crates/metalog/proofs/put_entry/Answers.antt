@@ -2,7 +2,6 @@
 -- Assumes nothing.
 use Rattle.metalog.specs.Log.{put}
 use borrow.Author.Tests.{lt-ltb, le-ltb}
-use borrow.Author.Rules.{rules}
 use Rattle.metalog.proofs.put_entry.Goals as goal
 
 pub returns-then-i-ge8 : goal.returns-then-i-ge8

@@ -6,13 +6,12 @@ use Rattle.metalog.specs.declared.Replay.{Replay}
 use Rattle.metalog.specs.Log.{entries, log_of, adds, replayed}
 use Rattle.runs.specs.Runs.{part}
 use Rattle.runs.proofs.Laws.{rest_drop}
-use borrow.Author.Rules.{rules}
 use lib.ListN.{length, take, drop, length-take, length-drop}
 use native.Mathlib.Nat.{add-sub_cancel_left}
 use native.Mathlib.Omega.{arith}
 use mathlib.Core.List.{List}
-use mathlib.Core.Path.{◌≡◌, refl, sym, ap, ap₂, ◌∙◌}
-use Prim.Native.Nat.{ℕ, ◌+◌, ◌-◌, ◌*◌}
+use mathlib.Core.Path.{refl, sym, ap, ap₂, ◌∙◌}
+use Prim.Native.Nat.{ℕ, ◌+◌, ◌*◌}
 use Rattle.metalog.proofs.replay_log.Goals as goal
 use Rattle.metalog.proofs.replay_log.Goals.{In-Entries}
 

@@ -1,18 +1,9 @@
 -- `metalog::replay_log` meets its contract.
 -- Assumes nothing.
 -- a batch's entries are there
-use Rattle.metalog.proofs.Laws.{Room, batch_room, replay_more, replay_end, replay_bad}
-use Rattle.metalog.specs.declared.Replay.{Replay}
-use Rattle.metalog.specs.Log.{entries, log_of, adds, replayed}
-use Rattle.runs.specs.Runs.{part}
-use Rattle.runs.proofs.Laws.{rest_drop}
-use borrow.Author.Rules.{rules}
-use lib.ListN.{length, take, drop, length-take, length-drop}
-use native.Mathlib.Nat.{add-sub_cancel_left}
-use native.Mathlib.Omega.{arith}
-use mathlib.Core.List.{List}
-use mathlib.Core.Path.{◌≡◌, refl, sym, ap, ap₂, ◌∙◌}
-use Prim.Native.Nat.{ℕ, ◌+◌, ◌-◌, ◌*◌}
+use Rattle.metalog.specs.Log.{log_of, replayed}
+use lib.ListN.{length}
+use mathlib.Core.Path.{◌≡◌}
 use Rattle.metalog.proofs.replay_log.Given as goal
 
 abbrev pub invariant-loop-s : goal.invariant-loop-s

@@ -5,7 +5,6 @@ use Rattle.runs.specs.Runs.{all_erased}
 use Rattle.runs.proofs.Laws.{rest_drop}
 use lib.ListN.{drop, drop_of_length-le}
 use mathlib.Core.Path.{ap, sym, ◌∙◌}
-use borrow.Author.Rules.{rules}
 use Rattle.metalog.proofs.rest_erased.Goals as goal
 
 pub returns-then-bs-end : goal.returns-then-bs-end

@@ -6,7 +6,6 @@ use Rattle.page.proofs.Laws.{ran_append}
 use mathlib.Core.List.{List, [], ◌∷◌}
 use mathlib.Core.Path.{sym, ap, ◌∙◌}
 use Prim.Native.Nat.{ℕ}
-use borrow.Author.Rules.{rules}
 use Rattle.metalog.proofs.store_new_meta.Goals as goal
 
 pub returns : goal.returns

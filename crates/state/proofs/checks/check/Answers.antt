@@ -1,8 +1,7 @@
 -- `state::checks::check` meets its contract: the tests that led to each return say which case it is.
 -- Assumes nothing.
 use Rattle.state.specs.Checks.{checks}
-use borrow.Author.Tests.{lt-ltb, le-ltb, not-true, not-false}
-use borrow.Author.Rules.{rules}
+use borrow.Author.Tests.{lt-ltb, le-ltb}
 use Rattle.state.proofs.checks.check.Goals as goal
 
 pub returns-then-wrong_size : goal.returns-then-wrong_size

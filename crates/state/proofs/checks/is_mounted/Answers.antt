@@ -1,7 +1,6 @@
 -- `state::checks::is_mounted` meets its contract.
 -- Assumes nothing.
 use Rattle.state.specs.Checks.{is_mounted}
-use borrow.Author.Rules.{rules}
 use Rattle.state.proofs.checks.is_mounted.Goals as goal
 
 pub returns : goal.returns

@@ -2,7 +2,6 @@
 -- Assumes nothing.
 use Rattle.state.specs.Checks.{sizes}
 use borrow.Author.Tests.{lt-leb, le-leb}
-use borrow.Author.Rules.{rules}
 use Rattle.state.proofs.checks.sizes_fit.Goals as goal
 
 pub returns-then-map-gt1024 : goal.returns-then-map-gt1024

@@ -1,7 +1,6 @@
 -- `state::checks::writer_ok` meets its contract.
 -- Assumes nothing.
 use Rattle.state.specs.Checks.{writer_ok}
-use borrow.Author.Rules.{rules}
 use Rattle.state.proofs.checks.writer_ok.Goals as goal
 
 pub returns : goal.returns

@@ -1,7 +1,6 @@
 -- `state::checks::wrong_size` meets its contract.
 -- Assumes nothing.
 use Rattle.state.specs.Checks.{wrong_size}
-use borrow.Author.Rules.{rules}
 use Rattle.state.proofs.checks.wrong_size.Goals as goal
 
 pub returns : goal.returns

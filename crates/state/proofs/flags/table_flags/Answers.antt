@@ -2,7 +2,6 @@
 -- Assumes nothing.
 use Rattle.state.specs.Values.{with_flags, with_file}
 use borrow.Author.Tests.{lt-ltb, le-ltb}
-use borrow.Author.Rules.{rules}
 use Rattle.state.proofs.flags.table_flags.Goals as goal
 
 pub returns-then-file-ge8 : goal.returns-then-file-ge8

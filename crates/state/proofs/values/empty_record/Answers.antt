@@ -1,7 +1,6 @@
 -- `state::values::empty_record` meets its contract.
 -- Assumes nothing.
 use Rattle.state.specs.Values.{empty_record}
-use borrow.Author.Rules.{rules}
 use Rattle.state.proofs.values.empty_record.Goals as goal
 
 pub returns : goal.returns

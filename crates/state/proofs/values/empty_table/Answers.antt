@@ -1,7 +1,6 @@
 -- `state::values::empty_table` meets its contract.
 -- Assumes nothing.
 use Rattle.state.specs.Values.{empty_table}
-use borrow.Author.Rules.{rules}
 use Rattle.state.proofs.values.empty_table.Goals as goal
 
 pub returns : goal.returns

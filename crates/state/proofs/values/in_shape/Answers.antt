@@ -2,7 +2,6 @@
 -- Assumes nothing.
 use Rattle.state.specs.Values.{in_shape}
 use mathlib.Core.Path.{refl}
-use borrow.Author.Rules.{rules}
 use Rattle.state.proofs.values.in_shape.Goals as goal
 
 pub returns : goal.returns

@@ -1,7 +1,6 @@
 -- `state::values::new_state` meets its contract.
 -- Assumes nothing.
 use Rattle.state.specs.Values.{unmounted}
-use borrow.Author.Rules.{rules}
 use Rattle.state.proofs.values.new_state.Goals as goal
 
 pub returns : goal.returns

@@ -1,7 +1,6 @@
 -- `state::values::no_writer` meets its contract.
 -- Assumes nothing.
 use Rattle.state.specs.Values.{no_writer}
-use borrow.Author.Rules.{rules}
 use Rattle.state.proofs.values.no_writer.Goals as goal
 
 pub returns : goal.returns

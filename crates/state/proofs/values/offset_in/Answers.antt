@@ -2,7 +2,6 @@
 -- Assumes nothing.
 use borrow.Author.Tests.{lt-ltb, le-ltb}
 use Rattle.state.specs.Values.{offset_in}
-use borrow.Author.Rules.{rules}
 use Rattle.state.proofs.values.offset_in.Goals as goal
 
 pub returns-then-file-gt7 : goal.returns-then-file-gt7

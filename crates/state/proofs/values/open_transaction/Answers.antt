@@ -1,7 +1,6 @@
 -- `state::values::open_transaction` meets its contract.
 -- Assumes nothing.
 use Rattle.state.specs.Values.{opened}
-use borrow.Author.Rules.{rules}
 use Rattle.state.proofs.values.open_transaction.Goals as goal
 
 pub returns : goal.returns

@@ -1,7 +1,6 @@
 -- `state::values::settle` meets its contract.
 -- Assumes nothing.
 use Rattle.state.specs.Values.{settled}
-use borrow.Author.Rules.{rules}
 use Rattle.state.proofs.values.settle.Goals as goal
 
 pub returns : goal.returns

@@ -1,0 +1,16 @@
+-- `answers::call::said_located` meets its contract.
+-- Assumes nothing.
+use Rattle.answers.specs.Calls.{located}
+use borrow.Author.Rules.{rules}
+use Rattle.answers.proofs.call.said_located.Goals as goal
+
+-- LEFT slice-aggregate-two : tie.Need-slice-aggregate-two
+-- slice-aggregate-two c = search rules
+
+pub returns-in-At : goal.returns-in-At
+unfolding located
+returns-in-At c = rw c.in-At.is c.two.ensures
+
+pub returns-in-Refused : goal.returns-in-Refused
+unfolding located
+returns-in-Refused c = rw c.in-Refused.is c.refused.ensures
