@@ -1,15 +1,11 @@
 // The listing program: an image on standard input, a line for each file that is not empty on standard output.
 #![tactic(auto)]
 
-ghost use Rattle.std.specs.Prelude.{◌≤◌};
+ghost use Rattle.std.specs.Prelude.{◌≤◌, length, IfOk};
 
 use inventory::{FileLine, Inventory};
-use std::alloc::Global;
 use std::io;
 use std::io::Read;
-
-// One byte more than the largest image, so that a longer input shows.
-const ROOM: usize = 65537;
 
 // One file's line, or nothing where the file is empty.
 fn print_line(rt: &impl Print, id: usize, line: FileLine) -> io::Result<()> {
@@ -58,17 +54,45 @@ fn print_inventory(rt: &impl Print, inv: Inventory) -> io::Result<()> {
     print_files(rt, inv.lines)
 }
 
-// What is kept of the input. A longer one is read to its end, so that whoever writes it is not cut off.
-fn read_image<R: Read>(alloc: Global, input: &mut R) -> io::Result<Vec<u8>> {
-    let mut image = Vec::with_capacity(alloc, ROOM)?;
-    input.by_ref().take(ROOM as u64).read_to_end(&mut image)?;
-    if image.len() == ROOM {
-        io::copy(input, &mut io::sink())?;
+// Fills buf as far as the input goes, and answers how many bytes came.
+fn read_full<R: Read>(input: &mut R, buf: &mut [u8]) -> io::Result<usize>
+    ensures { IfOk result (λ n. n ≤ length buf.new) }
+{
+    let mut done = 0;
+    while done < buf.len() {
+        let n = input.read(&mut buf[done..])?;
+        if n == 0 {
+            break;
+        }
+        done += n;
     }
-    Ok(image)
+    Ok(done)
+}
+
+// Reads once more, and answers whether something came.
+fn read_some<R: Read>(input: &mut R) -> io::Result<bool> {
+    let mut rest = [0; 4096];
+    let n = input.read(&mut rest)?;
+    Ok(0 < n)
+}
+
+// A longer input is read to its end, so that whoever writes it is not cut off. A proved loop has to end: no run uses the turns up.
+fn drain<R: Read>(input: &mut R) -> io::Result<()> {
+    for _ in 0..u64::MAX {
+        if !read_some(input)? {
+            break;
+        }
+    }
+    Ok(())
 }
 
 fn main(rt: HostRuntime) -> io::Result<()> {
-    let image = read_image(rt.alloc(), &mut rt.stdin())?;
-    print_inventory(&rt, inventory::list_image(image.as_slice()))
+    // one byte more than the largest image
+    let mut image = [0; 65537];
+    let mut input = rt.stdin();
+    let n = read_full(&mut input, &mut image)?;
+    if n == 65537 {
+        drain(&mut input)?;
+    }
+    print_inventory(&rt, inventory::list_image(&image[..n]))
 }

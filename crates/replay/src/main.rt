@@ -5,11 +5,18 @@ mod input;
 
 ghost use Rattle.std.specs.Prelude.{◌≡◌, length};
 
+use answers::world::World;
+use input::Feed;
 use std::io;
-use std::io::{BufRead, BufReader};
+use std::io::Read;
 
-// How much of the input is read at once.
-const CHUNK: usize = 65536;
+// What goes from line to line: the world, where the input stands, and how much of the output is not written yet.
+#[derive(Clone, Copy)]
+struct Run {
+    world: World,
+    feed: Feed,
+    at: usize,
+}
 
 // No answer is longer than half of the output buffer.
 const HELD: usize = 65536;
@@ -26,6 +33,12 @@ fn map_buffer() -> [u8; 1026]
     [0; 1026]
 }
 
+fn large_buffer() -> [u8; 65536]
+    ensures { 65536 ≡ length result }
+{
+    [0; 65536]
+}
+
 fn output_buffer() -> [u8; 131072]
     ensures { 131072 ≡ length result }
 {
@@ -34,31 +47,56 @@ fn output_buffer() -> [u8; 131072]
 
 // Writes what is held, where it is much or the input is over, and answers how much is held then.
 fn flush(rt: &impl Print, out: &[u8], at: usize, over: bool) -> io::Result<usize> {
-    if at < HELD && !over {
-        return Ok(at);
+    if at < HELD {
+        if !over {
+            return Ok(at);
+        }
     }
     rt.write_all(runs::part_of(out, 0, at))?;
     Ok(0)
 }
 
-// Each line is read, answered, and written with others.
-fn replay<R: BufRead>(
+// One line: read, answered, and written with others.
+fn turn<R: Read>(
     rt: &impl Print,
     input: &mut R,
-    line: &mut Vec<u8>,
     image: &mut [u8],
     map: &mut [u8],
+    chunk: &mut [u8],
+    line: &mut [u8],
+    bytes: &mut [u8],
+    out: &mut [u8],
+    run: Run,
+) -> io::Result<Run> {
+    let got = input::next_line(input, chunk, line, run.feed)?;
+    let text = runs::part_of(line, 0, got.length);
+    let done = answers::answer::answer(image, map, text, bytes, out, run.at, run.world);
+    let feed = got.feed;
+    let at = flush(rt, out, done.at, feed.over)?;
+    Ok(Run {
+        world: done.world,
+        feed,
+        at,
+    })
+}
+
+// A proved loop has to end, and nothing says that the input does: the loop counts its turns, of which no run uses up all.
+fn replay<R: Read>(
+    rt: &impl Print,
+    input: &mut R,
+    image: &mut [u8],
+    map: &mut [u8],
+    chunk: &mut [u8],
+    line: &mut [u8],
     bytes: &mut [u8],
     out: &mut [u8],
 ) -> io::Result<()> {
-    let mut world = answers::world::fresh(1, 0, 0);
-    let mut at = 0;
+    let world = answers::world::fresh(1, 0, 0);
+    let feed = input::start();
+    let mut run = Run { world, feed, at: 0 };
     for _ in 0..u64::MAX {
-        let goes_on = input::next_line(input, line)?;
-        let done = answers::answer::answer(image, map, line.as_slice(), bytes, out, at, world);
-        world = done.world;
-        at = flush(rt, out, done.at, !goes_on)?;
-        if !goes_on {
+        run = turn(rt, input, image, map, chunk, line, bytes, out, run)?;
+        if run.feed.over {
             break;
         }
     }
@@ -66,14 +104,20 @@ fn replay<R: BufRead>(
 }
 
 fn main(rt: HostRuntime) -> io::Result<()> {
-    let alloc = rt.alloc();
-    let mut input = BufReader::with_capacity(alloc, CHUNK, rt.reader())?;
-    let mut line = Vec::with_capacity(alloc, input::ROOM)?;
     let mut image = image_buffer();
     let mut map = map_buffer();
-    let mut bytes = [0; 65536];
+    let mut chunk = large_buffer();
+    let mut line = large_buffer();
+    let mut bytes = large_buffer();
     let mut out = output_buffer();
     replay(
-        &rt, &mut input, &mut line, &mut image, &mut map, &mut bytes, &mut out,
+        &rt,
+        &mut rt.stdin(),
+        &mut image,
+        &mut map,
+        &mut chunk,
+        &mut line,
+        &mut bytes,
+        &mut out,
     )
 }
