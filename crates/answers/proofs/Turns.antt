@@ -1,14 +1,12 @@
 -- What answers rest on: a call's outcome with its answer, buffers of which a part is lent, and bytes that are read. Assumes nothing.
 use Prim.Native.Nat.{ℕ, ◌+◌, ◌-◌, ◌≤◌, min}
 use mathlib.Core.Path.{◌≡◌, refl, ap}
-use mathlib.Core.List.{List, [], ◌∷◌, ◌++◌}
+use mathlib.Core.List.{List, ◌++◌}
 use native.Mathlib.Decide.{dec_le}
 use native.Mathlib.Nat.{min-eq_left, min-eq_right}
 use native.Mathlib.Omega.{arith}
 use lib.ListN.{length, take, drop, drop_of_length-le}
 use lib.Seq.{take_all, take_at}
-use types.Run.{OneOf, miss}
-use denote.Enum.Declared.{tag_of}
 use borrow.Rule.Slice.PartMut.{put_mid}
 use Rattle.runs.specs.Runs.{part, part_of, splice}
 use Rattle.runs.proofs.Laws.{put_splice, part_of_in, length_splice}

@@ -6,9 +6,9 @@ use native.Mathlib.Omega.{arith}
 use native.Mathlib.Decide.{ℕ_discrete}
 use Rattle.metalog.specs.declared.Replay.{Replay}
 use Rattle.owners.specs.Moves.{Change, give, release, release_all, moved_to, new_base, settled}
-use Rattle.owners.specs.State.{at, val_in, val_of, Best, Owners, Base, Mounted, shut, Now, WriterOk, Inv}
+use Rattle.owners.specs.State.{val_in, val_of, Best, Owners, Base, Mounted, shut, Now, WriterOk, Inv}
 use Rattle.owners.specs.Store.{Page, met, Store, pick, Owner, free, held, meta, writer, outside, file}
-use Rattle.owners.proofs.Owned.{give_at, unwritten, same}
+use Rattle.owners.proofs.Owned.{give_at}
 use Rattle.owners.proofs.Tables.{inv_marks, inv_mount}
 use Rattle.owners.proofs.Walks.{file_frame}
 use Rattle.owners.proofs.Writing.{inside}

@@ -4,7 +4,7 @@ use mathlib.Core.Path.{◌≡◌, sym, ◌∙◌}
 use native.Mathlib.Omega.{arith}
 use native.Mathlib.Decide.{ℕ_discrete}
 use Rattle.owners.specs.Moves.{Change, NotMeta, Loose}
-use Rattle.owners.specs.State.{at, Best, Base, Mounted, Now, Kept, Inv}
+use Rattle.owners.specs.State.{Best, Base, Mounted, Now, Kept, Inv}
 use Rattle.owners.specs.Store.{Page, Store, File, Owner, free, meta, writer, file, FileAt}
 use Rattle.owners.proofs.Walks.{file_frame}
 

@@ -5,7 +5,7 @@ use mathlib.Core.Bool.{true, false}
 use native.Mathlib.Omega.{arith}
 use native.Mathlib.Decide.{ℕ_discrete}
 use Rattle.owners.specs.Moves.{give, dropped, set_f, set_d}
-use Rattle.owners.specs.State.{at, Owners, Base, Mounted, Writer, shut, Now, Kept, WriterOk, Inv}
+use Rattle.owners.specs.State.{Owners, Base, Mounted, Writer, shut, Now, Kept, WriterOk, Inv}
 use Rattle.owners.specs.Store.{Store, pick, File, gone, Owner, free, held, meta, writer, outside, file, FileAt}
 use Rattle.owners.proofs.Walks.{file_frame}
 

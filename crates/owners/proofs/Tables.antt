@@ -6,7 +6,7 @@ use mathlib.Core.List.{List, []}
 use native.Mathlib.Omega.{arith}
 use native.Mathlib.Decide.{ℕ_discrete, dec_le}
 use Rattle.owners.specs.Moves.{hold_f, mem_nil, mem?, keep_only, swap, swap_o, set_f, set_d, set_first, cut_file, set_flags, fresh, Cut}
-use Rattle.owners.specs.State.{at, Base, Mounted, shut, Now, Kept, first_of, end_of, WriterOk, Inv}
+use Rattle.owners.specs.State.{Base, Mounted, shut, Now, Kept, first_of, end_of, WriterOk, Inv}
 use Rattle.owners.specs.Store.{Store, pick, File, gone, Owner, free, held, meta, writer, outside, file, Mem, FileOk, empty, full, FileAt}
 use Rattle.owners.proofs.Owned.{Unwritten, unwritten, Shift, same, hold, inv_set}
 use Rattle.owners.proofs.Walks.{file_frame, mem_left, mem_right, mem_off, walk_shorter}

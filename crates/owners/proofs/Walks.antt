@@ -5,7 +5,6 @@ use mathlib.Core.List.{List, [], ◌∷◌, ◌++◌}
 use native.Mathlib.Omega.{arith}
 use native.Mathlib.Decide.{dec_le}
 use Rattle.owners.specs.Moves.{mem_nil}
-use Rattle.owners.specs.State.{at}
 use Rattle.owners.specs.Store.{Link, dat, Store, File, Owner, file, Mem, here, there, Walk, stop, root, step, FileOk, empty, full, FileAt}
 
 pub walk_head : {s : Store} {pc first p : ℕ} {l : List ℕ} → Walk s pc first p l → Mem p l

@@ -7,7 +7,7 @@ use mathlib.Core.List.{List, [], ◌∷◌}
 use native.Mathlib.Omega.{arith}
 use native.Mathlib.Decide.{ℕ_discrete, dec_le}
 use Rattle.owners.specs.Moves.{Change, give, dropped, mem_nil, mem_tail, set_f, set_d, with_wr, with_own}
-use Rattle.owners.specs.State.{at, Owners, Base, shut, ready, staging, Now, first_of, last_of, end_of, flags_of, Back, end, more, attach, finished, CopiedOk, next_step, Run, done, on, StagedOk, WriterOk, Inv}
+use Rattle.owners.specs.State.{Owners, Base, shut, ready, staging, Now, first_of, last_of, end_of, flags_of, Back, end, more, attach, finished, CopiedOk, next_step, Run, done, on, StagedOk, WriterOk, Inv}
 use Rattle.owners.specs.Store.{Link, nil, to, Page, dat, Store, pick, File, live, limit, Len, Owner, free, held, meta, writer, outside, file, Mem, here, there, Walk, stop, root, step, FileOk, empty, full, FileAt}
 use Rattle.owners.proofs.Frames.{mounted_change, loose_writer}
 use Rattle.owners.proofs.Owned.{give_at, give_off, take_same, drop_same, drop_unwritten, inv_write, Shift, same, hold, gain, inv_set}

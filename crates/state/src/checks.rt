@@ -8,6 +8,7 @@ use crate::types::{Done, Refusal, Search, State, Writer};
 const LIMIT: u32 = 4294967294;
 
 // Check 1, as format and mount make it.
+#[tactic(auto, unfolding(crate::specs::Checks::sizes))]
 pub fn sizes_fit(image: usize, map: usize) -> bool
     ensures { result ≡ sizes image map }
 {
@@ -62,6 +63,7 @@ fn wrong_size(image: usize, map: usize, mounted: bool, pages: u16) -> bool
 }
 
 // All four.
+#[tactic(auto, unfolding(crate::specs::Checks::checks))]
 pub fn check(image: usize, map: usize, s: State, busy: bool, file: u8) -> Done
     ensures { result ≡ checks image map s busy file }
 {

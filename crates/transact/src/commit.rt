@@ -7,8 +7,8 @@ ghost use Rattle.state.specs.World.{before, after, after_call, yields, promised}
 ghost use Rattle.transact.specs.Commit.{dirty_files, moved, appended_at, commit};
 
 use crate::{files, rows};
-use metalog::LogEnd;
 use map::Alloc;
+use metalog::LogEnd;
 use page::MetaHeader;
 use state::types::{Done, Out, Refusal, State, Table};
 

@@ -16,7 +16,7 @@ use Rattle.page.proofs.Headers.{header_written, header_there, payload_part}
 use Rattle.map.specs.Map.{free, used}
 use Rattle.map.proofs.Laws.{Found}
 use Rattle.chain.specs.declared.PagePointer.{PagePointer}
-use Rattle.chain.specs.Links.{end, Chain, ids}
+use Rattle.chain.specs.Links.{Chain, ids}
 use Rattle.chain.specs.Steps.{read_at}
 use Rattle.chain.specs.Walk.{Each}
 use Rattle.chain.specs.Files.{last_of}

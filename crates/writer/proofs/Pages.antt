@@ -5,7 +5,7 @@ use mathlib.Core.Bool.{Bool, true, false, cond}
 use mathlib.Core.List.{List}
 use native.Mathlib.Omega.{arith}
 use borrow.Author.Tests.{eq-eqb, ne_eqb}
-use lib.ListN.{length, take}
+use lib.ListN.{take}
 use Rattle.page.specs.declared.DataHeader.{DataHeader}
 use Rattle.page.specs.Store.{ran, data_stores}
 use Rattle.map.specs.declared.Alloc.{Alloc}

@@ -1,6 +1,6 @@
 -- Two writes are one: where a write of l ++ l' succeeds, a write of l and then one of l' succeed, and leave the same image, map,
 -- table and state. Assumes nothing.
-use Prim.Native.Nat.{ℕ, ◌+◌, ◌<◌}
+use Prim.Native.Nat.{ℕ, ◌<◌}
 use mathlib.Core.Path.{◌≡◌, refl, sym, ap, subst, ◌∙◌}
 use mathlib.Core.Bool.{true, false}
 use mathlib.Core.List.{List, ◌++◌}

@@ -4,7 +4,6 @@
 -- what the step of a turn says
 -- the walk from the first page's place is that from the page
 use mathlib.Core.Path.{◌≡◌, refl, ap, ◌∙◌}
-use Prim.Native.Nat.{◌+◌, ◌≤◌}
 use native.Mathlib.Omega.{arith}
 use Rattle.chain.specs.declared.Kind.{Kind}
 use Rattle.chain.specs.declared.Kind.TheVariants.{Stays, Reaches, Breaks}
@@ -15,7 +14,6 @@ use Rattle.chain.specs.Back.{walk_back}
 use Rattle.chain.proofs.Places.{SaysBack, says_back, walk_wide}
 use Rattle.inventory.specs.Inventory.{pages_from}
 use Rattle.inventory.proofs.Pages.{counted, counted_stays, counted_breaks, counted_reaches, counted_thin}
-use borrow.Author.Rules.{rules}
 use Rattle.inventory.proofs.count_pages.Goals as goal
 use Rattle.inventory.proofs.count_pages.Goals.{After-back-s, At-loop-here}
 

@@ -3,19 +3,11 @@
 -- Assumes nothing.
 -- what the step of a turn says
 -- the walk from the first page's place is that from the page
-use mathlib.Core.Path.{◌≡◌, refl, ap, ◌∙◌}
+use mathlib.Core.Path.{◌≡◌}
 use Prim.Native.Nat.{◌+◌, ◌≤◌}
-use native.Mathlib.Omega.{arith}
-use Rattle.chain.specs.declared.Kind.{Kind}
-use Rattle.chain.specs.declared.Kind.TheVariants.{Stays, Reaches, Breaks}
-use Rattle.chain.specs.declared.Place.{Place}
-use Rattle.chain.specs.Links.{start}
-use Rattle.chain.specs.Steps.{read_at, walk}
+use Rattle.chain.specs.Steps.{read_at}
 use Rattle.chain.specs.Back.{walk_back}
-use Rattle.chain.proofs.Places.{SaysBack, says_back, walk_wide}
-use Rattle.inventory.specs.Inventory.{pages_from}
-use Rattle.inventory.proofs.Pages.{counted, counted_stays, counted_breaks, counted_reaches, counted_thin}
-use borrow.Author.Rules.{rules}
+use Rattle.inventory.proofs.Pages.{counted}
 use Rattle.inventory.proofs.count_pages.Given as goal
 
 abbrev pub invariant-loop-here : goal.invariant-loop-here

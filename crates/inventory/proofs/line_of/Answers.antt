@@ -2,7 +2,6 @@
 -- Assumes nothing.
 use Rattle.inventory.specs.Inventory.{line_of, pages_of}
 use borrow.Author.Tests.{eq-eqb, ne_eqb}
-use borrow.Author.Rules.{rules}
 use Rattle.inventory.proofs.line_of.Goals as goal
 
 pub returns-then-f-eq65535 : goal.returns-then-f-eq65535

@@ -1,7 +1,6 @@
 -- `inventory::lines_of` meets its contract: a line for each file.
 -- Assumes nothing.
 use Rattle.inventory.specs.Inventory.{lines_of}
-use borrow.Author.Rules.{rules}
 use Rattle.inventory.proofs.lines_of.Goals as goal
 
 pub returns : goal.returns

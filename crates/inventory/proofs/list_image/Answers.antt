@@ -5,7 +5,6 @@ use lib.ListN.{length, length-take, length-replicate}
 use Prim.Native.Nat.{◌≤◌}
 use native.Mathlib.Omega.{arith}
 use mathlib.Core.Path.{◌∙◌}
-use borrow.Author.Rules.{rules}
 use Rattle.inventory.proofs.list_image.Goals as goal
 
 pub returns-then-image-gt65536 : goal.returns-then-image-gt65536

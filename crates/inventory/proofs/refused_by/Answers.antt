@@ -1,6 +1,5 @@
 -- `inventory::refused_by` meets its contract.
 -- Assumes nothing.
-use borrow.Author.Rules.{rules}
 use Rattle.inventory.proofs.refused_by.Goals as goal
 
 pub returns : goal.returns

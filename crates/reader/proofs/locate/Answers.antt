@@ -4,7 +4,6 @@ use mathlib.Core.Path.{ap, ◌∙◌}
 use native.Mathlib.Omega.{arith}
 use Rattle.reader.specs.Locate.{located_numbers}
 use Rattle.reader.proofs.Exits.{known_file, locate_refused, locate_fine}
-use borrow.Author.Rules.{rules}
 use Rattle.reader.proofs.locate.Goals as goal
 
 pub returns-in-Refused : goal.returns-in-Refused

@@ -4,7 +4,6 @@ use mathlib.Core.Path.{ap, ◌∙◌}
 use native.Mathlib.Omega.{arith}
 use Rattle.reader.specs.Read.{read_told}
 use Rattle.reader.proofs.Exits.{known_file, read_refused, read_fine}
-use borrow.Author.Rules.{rules}
 use Rattle.reader.proofs.read.Goals as goal
 
 pub returns-in-Refused : goal.returns-in-Refused

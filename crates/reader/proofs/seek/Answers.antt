@@ -4,7 +4,6 @@ use mathlib.Core.Path.{ap}
 use Rattle.reader.specs.Skip.{skipped_numbers}
 use Rattle.reader.proofs.Numbers.{skipped_same}
 use Rattle.reader.proofs.Exits.{seek_is}
-use borrow.Author.Rules.{rules}
 use Rattle.reader.proofs.seek.Goals as goal
 
 pub returns : goal.returns

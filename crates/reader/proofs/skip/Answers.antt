@@ -4,7 +4,6 @@ use mathlib.Core.Path.{ap, ◌∙◌}
 use native.Mathlib.Omega.{arith}
 use Rattle.reader.specs.Skip.{skipped_numbers}
 use Rattle.reader.proofs.Exits.{known_file, skip_refused, skip_fine}
-use borrow.Author.Rules.{rules}
 use Rattle.reader.proofs.skip.Goals as goal
 
 pub returns-in-Refused : goal.returns-in-Refused

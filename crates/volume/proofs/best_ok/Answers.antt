@@ -2,7 +2,6 @@
 -- Assumes nothing.
 use mathlib.Core.Path.{refl}
 use Rattle.volume.specs.Mount.{best_ok}
-use borrow.Author.Rules.{rules}
 use Rattle.volume.proofs.best_ok.Goals as goal
 
 pub returns : goal.returns

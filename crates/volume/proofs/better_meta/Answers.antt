@@ -1,7 +1,6 @@
 -- `volume::better_meta` meets its contract.
 -- Assumes nothing.
 use Rattle.volume.proofs.Scans.{better_none, better_higher, better_lower}
-use borrow.Author.Rules.{rules}
 use Rattle.volume.proofs.better_meta.Goals as goal
 
 pub returns-in_default : goal.returns-in_default

@@ -4,7 +4,6 @@ use mathlib.Core.Path.{sym}
 use borrow.Author.Tests.{eq-eqb}
 use lib.ListN.{get_or-eq_default}
 use lib.Seq.{set_out}
-use borrow.Author.Rules.{rules}
 use Rattle.volume.proofs.claim_page.Goals as goal
 
 pub returns-then-map-p : goal.returns-then-map-p

@@ -8,7 +8,6 @@ use mathlib.Core.Path.{◌≡◌, refl, sym, ap, ◌∙◌}
 use mathlib.Core.Bool.{true}
 use mathlib.Core.List.{List}
 use Prim.Native.Nat.{ℕ}
-use borrow.Author.Rules.{rules}
 use lib.Dec.{eqb}
 use lib.ListN.{length, get_or}
 use Rattle.chain.specs.declared.Kind.{Kind}

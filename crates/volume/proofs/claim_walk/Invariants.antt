@@ -4,21 +4,11 @@
 -- what the step of a turn says
 -- the map is as long as it was
 -- what the walk from the first page's place gives is what the walk from the page gives
-use mathlib.Core.Path.{◌≡◌, refl, sym, ap, ◌∙◌}
-use mathlib.Core.Bool.{true}
-use mathlib.Core.List.{List}
-use Prim.Native.Nat.{ℕ}
-use borrow.Author.Rules.{rules}
-use lib.Dec.{eqb}
-use lib.ListN.{length, get_or}
-use Rattle.chain.specs.declared.Kind.{Kind}
-use Rattle.chain.specs.declared.Kind.TheVariants.{Stays, Reaches, Breaks}
-use Rattle.chain.specs.declared.Place.{Place}
-use Rattle.chain.specs.Steps.{read_at, Trace, walk}
-use Rattle.chain.specs.Back.{place_of, wide, walk_back}
-use Rattle.chain.proofs.Places.{SaysBack, says_back, walk_wide}
-use Rattle.volume.specs.Mount.{good, claimed}
-use Rattle.volume.proofs.Claims.{claim_taken, claim_stays, claim_breaks, claim_reaches, claim_thin}
+use mathlib.Core.Path.{◌≡◌}
+use lib.ListN.{length}
+use Rattle.chain.specs.Steps.{read_at}
+use Rattle.chain.specs.Back.{wide, walk_back}
+use Rattle.volume.specs.Mount.{claimed}
 use Rattle.volume.proofs.claim_walk.Given as goal
 
 abbrev pub invariant-loop-here : goal.invariant-loop-here

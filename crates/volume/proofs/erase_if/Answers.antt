@@ -2,7 +2,6 @@
 -- Assumes nothing.
 use mathlib.Core.Path.{sym, ◌∙◌}
 use Rattle.volume.proofs.Erasures.{erased_found, erased_own, erased_kept}
-use borrow.Author.Rules.{rules}
 use Rattle.volume.proofs.erase_if.Goals as goal
 
 pub returns-in-Found : goal.returns-in-Found

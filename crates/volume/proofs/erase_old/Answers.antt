@@ -1,13 +1,9 @@
 -- `volume::erase_old` meets its contract: at each turn the pages before are done.
 -- Assumes nothing.
 use mathlib.Core.Path.{◌≡◌, refl, ◌∙◌}
-use Prim.Native.Nat.{◌≤◌, ◌-◌}
 use native.Mathlib.Omega.{arith}
-use Rattle.page.specs.Store.{ran}
-use lib.ListN.{length}
 use Rattle.volume.specs.Format.{erasures}
 use Rattle.volume.proofs.Erasures.{erasures_more}
-use borrow.Author.Rules.{rules}
 use Rattle.volume.proofs.erase_old.Goals as goal
 
 pub loop-i-init : goal.loop-i-init

@@ -1,13 +1,10 @@
 -- `volume::erase_old` meets its contract: at each turn the pages before are done.
 -- Assumes nothing.
-use mathlib.Core.Path.{◌≡◌, refl, ◌∙◌}
+use mathlib.Core.Path.{◌≡◌}
 use Prim.Native.Nat.{◌≤◌, ◌-◌}
-use native.Mathlib.Omega.{arith}
 use Rattle.page.specs.Store.{ran}
 use lib.ListN.{length}
 use Rattle.volume.specs.Format.{erasures}
-use Rattle.volume.proofs.Erasures.{erasures_more}
-use borrow.Author.Rules.{rules}
 use Rattle.volume.proofs.erase_old.Given as goal
 
 abbrev pub invariant-loop-i : goal.invariant-loop-i

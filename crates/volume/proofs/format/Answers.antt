@@ -10,7 +10,6 @@ use Rattle.state.specs.Refusals.{numbers}
 use Rattle.state.specs.World.{in_numbers}
 use Rattle.state.proofs.Laws.{sizes_say}
 use Rattle.volume.proofs.Calls.{format_refused, format_done}
-use borrow.Author.Rules.{rules}
 use Rattle.volume.proofs.format.Goals as goal
 
 pub overflow_cast-pages : goal.overflow_cast-pages

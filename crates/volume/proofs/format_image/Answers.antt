@@ -2,7 +2,6 @@
 -- Assumes nothing.
 use mathlib.Core.Path.{◌∙◌}
 use Rattle.volume.proofs.Erasures.{format_stores_lem}
-use borrow.Author.Rules.{rules}
 use Rattle.volume.proofs.format_image.Goals as goal
 
 pub returns : goal.returns

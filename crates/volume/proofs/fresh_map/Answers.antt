@@ -1,6 +1,5 @@
 -- `volume::fresh_map` meets its contract.
 -- Assumes nothing.
-use borrow.Author.Rules.{rules}
 use Rattle.volume.proofs.fresh_map.Goals as goal
 
 pub returns : goal.returns

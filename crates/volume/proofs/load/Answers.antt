@@ -1,7 +1,6 @@
 -- `volume::load` meets its contract.
 -- Assumes nothing.
 use Rattle.volume.proofs.Exits.{load_none, load_unread, load_past, load_over, load_walk}
-use borrow.Author.Rules.{rules}
 use Rattle.volume.proofs.load.Goals as goal
 
 pub returns-then-p-eq-NONE : goal.returns-then-p-eq-NONE

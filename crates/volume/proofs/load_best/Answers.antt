@@ -2,7 +2,6 @@
 -- Assumes nothing.
 use mathlib.Core.Path.{sym, ◌∙◌}
 use Rattle.volume.proofs.Exits.{from_no_best, from_no_log, from_log}
-use borrow.Author.Rules.{rules}
 use Rattle.volume.proofs.load_best.Goals as goal
 
 pub returns-else-best_ok : goal.returns-else-best_ok

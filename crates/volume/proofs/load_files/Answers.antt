@@ -1,13 +1,10 @@
 -- `volume::load_files` meets its contract: the files so far in front of what the others give on the map as it is, are what all give.
 -- Assumes nothing.
-use mathlib.Core.Path.{◌≡◌, refl, ◌∙◌}
-use Prim.Native.Nat.{◌≤◌, ◌-◌}
+use mathlib.Core.Path.{refl, ◌∙◌}
 use native.Mathlib.Omega.{arith}
-use lib.ListN.{length, take, length-set}
+use lib.ListN.{length-set}
 use Rattle.state.specs.Values.{empty_table}
-use Rattle.volume.specs.Mount.{load_from}
-use Rattle.volume.proofs.Exits.{behind, behind_none, from_bad, from_good, from_all}
-use borrow.Author.Rules.{rules}
+use Rattle.volume.proofs.Exits.{behind_none, from_bad, from_good, from_all}
 use Rattle.volume.proofs.load_files.Goals as goal
 
 pub loop-i-init : goal.loop-i-init
@@ -23,13 +20,12 @@ returns-else-r c =
     from_bad _ _ _ _ c.loop-i.table.files _ c.loop-i-test.true (rw c.if-r.false at c.load-r.ensures) ∙ c.loop-i.invariant.2
 
 pub loop-i-preserved : goal.loop-i-preserved
-loop-i-preserved c =
-    (
-      omega arith,
-      simp length-set c.loop-i.invariant.1,
-      from_good _ _ _ _ c.loop-i.table.files _ c.loop-i-test.true _ (rw c.if-r.true at c.load-r.ensures) c.loop-i.invariant.1 ∙ c.loop-i.invariant.2,
-      c.load-r.auto.map ∙ c.loop-i.invariant.3,
-    )
+loop-i-preserved c = (
+  omega arith,
+  simp length-set c.loop-i.invariant.1,
+  from_good _ _ _ _ c.loop-i.table.files _ c.loop-i-test.true _ (rw c.if-r.true at c.load-r.ensures) c.loop-i.invariant.1 ∙ c.loop-i.invariant.2,
+  c.load-r.auto.map ∙ c.loop-i.invariant.3,
+)
 
 pub shape_of-map : goal.shape_of-map
 shape_of-map c =

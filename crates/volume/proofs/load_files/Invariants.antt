@@ -1,13 +1,10 @@
 -- `volume::load_files` meets its contract: the files so far in front of what the others give on the map as it is, are what all give.
 -- Assumes nothing.
-use mathlib.Core.Path.{◌≡◌, refl, ◌∙◌}
+use mathlib.Core.Path.{◌≡◌}
 use Prim.Native.Nat.{◌≤◌, ◌-◌}
-use native.Mathlib.Omega.{arith}
-use lib.ListN.{length, take, length-set}
-use Rattle.state.specs.Values.{empty_table}
+use lib.ListN.{length, take}
 use Rattle.volume.specs.Mount.{load_from}
-use Rattle.volume.proofs.Exits.{behind, behind_none, from_bad, from_good, from_all}
-use borrow.Author.Rules.{rules}
+use Rattle.volume.proofs.Exits.{behind}
 use Rattle.volume.proofs.load_files.Given as goal
 
 abbrev pub invariant-loop-i : goal.invariant-loop-i

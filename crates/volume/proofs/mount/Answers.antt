@@ -5,7 +5,6 @@ use Rattle.state.specs.Refusals.{numbers}
 use Rattle.state.specs.World.{in_numbers}
 use Rattle.state.proofs.Laws.{sizes_say}
 use Rattle.volume.proofs.Calls.{with_refused, with_sizes, mount_is}
-use borrow.Author.Rules.{rules}
 use Rattle.volume.proofs.mount.Goals as goal
 
 pub mount_best-requires : goal.mount_best-requires

@@ -5,7 +5,6 @@ use native.Mathlib.Nat.{mod-lt}
 use native.Mathlib.Omega.{arith}
 use Rattle.volume.proofs.Exits.{all_chosen}
 use Rattle.volume.proofs.Calls.{mount_done, mount_damaged}
-use borrow.Author.Rules.{rules}
 use Rattle.volume.proofs.mount_best.Goals as goal
 
 pub nonzero_rem-cursor : goal.nonzero_rem-cursor

@@ -1,6 +1,5 @@
 -- `volume::no_file` meets its contract.
 -- Assumes nothing.
-use borrow.Author.Rules.{rules}
 use Rattle.volume.proofs.no_file.Goals as goal
 
 pub returns : goal.returns

@@ -1,11 +1,9 @@
 -- `volume::scan_meta` meets its contract: at each turn the best is that of the pages before.
 -- Assumes nothing.
 use mathlib.Core.Path.{◌≡◌, refl, ◌∙◌}
-use Prim.Native.Nat.{◌≤◌, ◌-◌}
 use native.Mathlib.Omega.{arith}
 use Rattle.volume.specs.Scan.{scan}
 use Rattle.volume.proofs.Scans.{scan_more}
-use borrow.Author.Rules.{rules}
 use Rattle.volume.proofs.scan_meta.Goals as goal
 
 pub loop-i-init : goal.loop-i-init

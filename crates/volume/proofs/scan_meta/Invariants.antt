@@ -1,11 +1,8 @@
 -- `volume::scan_meta` meets its contract: at each turn the best is that of the pages before.
 -- Assumes nothing.
-use mathlib.Core.Path.{◌≡◌, refl, ◌∙◌}
+use mathlib.Core.Path.{◌≡◌}
 use Prim.Native.Nat.{◌≤◌, ◌-◌}
-use native.Mathlib.Omega.{arith}
 use Rattle.volume.specs.Scan.{scan}
-use Rattle.volume.proofs.Scans.{scan_more}
-use borrow.Author.Rules.{rules}
 use Rattle.volume.proofs.scan_meta.Given as goal
 
 abbrev pub invariant-loop-i : goal.invariant-loop-i

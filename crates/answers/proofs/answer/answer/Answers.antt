@@ -1,7 +1,6 @@
 -- `answers::answer::answer` meets its contract.
 -- Assumes nothing.
 use Rattle.answers.specs.Answer.{answered}
-use borrow.Author.Rules.{rules}
 use Rattle.answers.proofs.answer.answer.Goals as goal
 
 pub returns : goal.returns

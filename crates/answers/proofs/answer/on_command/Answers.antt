@@ -4,7 +4,6 @@ use Rattle.answers.specs.Answer.{on_command}
 use Rattle.answers.proofs.Turns.{other, lent_back}
 use Rattle.answers.specs.World.{scene}
 use mathlib.Core.Path.{ap}
-use borrow.Author.Rules.{rules}
 use Rattle.answers.proofs.answer.on_command.Goals as goal
 
 pub returns-in-Setup : goal.returns-in-Setup

@@ -5,7 +5,6 @@ use Rattle.answers.proofs.Turns.{said_left}
 use Rattle.answers.specs.World.{scene}
 use Rattle.script.specs.Text.{puts}
 use mathlib.Core.Path.{refl, ap}
-use borrow.Author.Rules.{rules}
 use Rattle.answers.proofs.answer.on_lent.Goals as goal
 
 pub returns-in-Volume : goal.returns-in-Volume

@@ -3,7 +3,6 @@
 use Rattle.answers.specs.Answer.{on_setup, poked_image, poked_map}
 use Rattle.answers.proofs.Turns.{said_left}
 use mathlib.Core.Path.{ap}
-use borrow.Author.Rules.{rules}
 use Rattle.answers.proofs.answer.on_setup.Goals as goal
 
 pub returns-in-Lend : goal.returns-in-Lend

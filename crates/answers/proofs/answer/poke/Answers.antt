@@ -8,7 +8,6 @@ use Rattle.runs.proofs.Laws.{placed_out}
 use native.Mathlib.Omega.{arith}
 use lib.ListN.{length}
 use Prim.Native.Nat.{◌+◌, ◌≤◌, ◌<◌}
-use borrow.Author.Rules.{rules}
 use Rattle.answers.proofs.answer.poke.Goals as goal
 
 pub returns-then-target-offset : goal.returns-then-target-offset

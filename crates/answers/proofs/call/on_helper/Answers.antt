@@ -1,7 +1,6 @@
 -- `answers::call::on_helper` meets its contract.
 -- Assumes nothing.
 use Rattle.answers.specs.Calls.{on_helper}
-use borrow.Author.Rules.{rules}
 use Rattle.answers.proofs.call.on_helper.Goals as goal
 
 -- LEFT slice-aggregate-one : tie.Need-slice-aggregate-one

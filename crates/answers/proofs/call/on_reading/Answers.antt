@@ -3,7 +3,6 @@
 use Rattle.answers.proofs.Turns.{located_left, skipped_left}
 use Rattle.answers.specs.Calls.{sight, on_reading}
 use mathlib.Core.Path.{ap}
-use borrow.Author.Rules.{rules}
 use Rattle.answers.proofs.call.on_reading.Goals as goal
 
 pub returns-in-Locate : goal.returns-in-Locate

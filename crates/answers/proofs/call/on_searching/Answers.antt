@@ -3,7 +3,6 @@
 use Rattle.answers.specs.Calls.{on_searching}
 use Rattle.answers.proofs.Turns.{sought_left}
 use Rattle.script.specs.Text.{spot}
-use borrow.Author.Rules.{rules}
 use Rattle.answers.proofs.call.on_searching.Goals as goal
 
 pub returns-in-Search : goal.returns-in-Search

@@ -3,7 +3,6 @@
 use Rattle.answers.specs.Calls.{on_writing}
 use Rattle.answers.proofs.Turns.{done_left}
 use Rattle.script.specs.Text.{spot}
-use borrow.Author.Rules.{rules}
 use Rattle.answers.proofs.call.on_writing.Goals as goal
 
 pub returns-in-Open : goal.returns-in-Open

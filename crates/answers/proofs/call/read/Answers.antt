@@ -14,7 +14,6 @@ use Prim.Native.Nat.{◌-◌, ◌≤◌}
 use Rattle.answers.specs.Calls.{sight, read_of}
 use borrow.Author.Tests.{lt-ltb, le-ltb}
 use mathlib.Core.Path.{◌≡◌, ap, ◌∙◌}
-use borrow.Author.Rules.{rules}
 use Rattle.answers.proofs.call.read.Goals as goal
 
 pub returns-then-bytes-n : goal.returns-then-bytes-n

@@ -1,7 +1,6 @@
 -- `answers::call::said_located` meets its contract.
 -- Assumes nothing.
 use Rattle.answers.specs.Calls.{located}
-use borrow.Author.Rules.{rules}
 use Rattle.answers.proofs.call.said_located.Goals as goal
 
 -- LEFT slice-aggregate-two : tie.Need-slice-aggregate-two

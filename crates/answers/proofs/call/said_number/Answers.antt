@@ -1,6 +1,5 @@
 -- `answers::call::said_number` meets its contract.
 -- Assumes nothing.
-use borrow.Author.Rules.{rules}
 use Rattle.answers.proofs.call.said_number.Goals as goal
 
 -- LEFT slice-aggregate-one : tie.Need-slice-aggregate-one

@@ -1,7 +1,6 @@
 -- `answers::call::said_searched` meets its contract.
 -- Assumes nothing.
 use Rattle.answers.specs.Calls.{sought}
-use borrow.Author.Rules.{rules}
 use Rattle.answers.proofs.call.said_searched.Goals as goal
 
 -- LEFT slice-aggregate-one : tie.Need-slice-aggregate-one

@@ -1,7 +1,6 @@
 -- `answers::call::said_skipped` meets its contract.
 -- Assumes nothing.
 use Rattle.answers.specs.Calls.{skipped}
-use borrow.Author.Rules.{rules}
 use Rattle.answers.proofs.call.said_skipped.Goals as goal
 
 -- LEFT slice-aggregate-one : tie.Need-slice-aggregate-one

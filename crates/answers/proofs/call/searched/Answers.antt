@@ -1,7 +1,6 @@
 -- `answers::call::searched` meets its contract.
 -- Assumes nothing.
 use Rattle.state.specs.Values.{with_search}
-use borrow.Author.Rules.{rules}
 use Rattle.answers.proofs.call.searched.Goals as goal
 
 pub returns : goal.returns

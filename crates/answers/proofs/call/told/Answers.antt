@@ -1,6 +1,5 @@
 -- `answers::call::told` meets its contract.
 -- Assumes nothing.
-use borrow.Author.Rules.{rules}
 use Rattle.answers.proofs.call.told.Goals as goal
 
 pub returns : goal.returns

@@ -1,6 +1,5 @@
 -- `reader::ask::files_with_flag` meets its contract, file by file.
 -- Assumes nothing.
-use borrow.Author.Rules.{rules}
 use Rattle.reader.proofs.ask.files_with_flag.Goals as goal
 
 pub returns : goal.returns

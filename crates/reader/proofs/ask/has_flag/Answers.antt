@@ -1,6 +1,5 @@
 -- `reader::ask::has_flag` meets its contract.
 -- Assumes nothing.
-use borrow.Author.Rules.{rules}
 use Rattle.reader.proofs.ask.has_flag.Goals as goal
 
 pub returns : goal.returns

@@ -2,7 +2,6 @@
 -- Assumes nothing.
 use borrow.Author.Tests.{lt-ltb, le-ltb, eq-eqb, ne_eqb}
 use Rattle.reader.specs.Ask.{empty_says}
-use borrow.Author.Rules.{rules}
 use Rattle.reader.proofs.ask.is_empty.Goals as goal
 
 pub returns-then-file-gt7 : goal.returns-then-file-gt7

@@ -2,7 +2,6 @@
 -- Assumes nothing.
 use borrow.Author.Tests.{lt-ltb, le-ltb}
 use Rattle.reader.specs.Ask.{reader_at}
-use borrow.Author.Rules.{rules}
 use Rattle.reader.proofs.ask.reader_of.Goals as goal
 
 pub returns-then-file-gt7 : goal.returns-then-file-gt7

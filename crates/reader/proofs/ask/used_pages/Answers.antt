@@ -3,7 +3,6 @@
 use native.Mathlib.Omega.{arith}
 use lib.ListN.{take, length-take}
 use Rattle.map.proofs.Laws.{count_le}
-use borrow.Author.Rules.{rules}
 use Rattle.reader.proofs.ask.used_pages.Goals as goal
 
 pub overflow_sub-result : goal.overflow_sub-result

@@ -2,7 +2,6 @@
 -- Assumes nothing.
 use mathlib.Core.Path.{sym, ◌∙◌}
 use Rattle.reader.proofs.Exits.{land_end, land_open, land_shut, land_shapeless}
-use borrow.Author.Rules.{rules}
 use Rattle.reader.proofs.pages.land.Goals as goal
 
 pub returns-then-seq-f : goal.returns-then-seq-f

@@ -2,7 +2,6 @@
 -- Assumes nothing.
 use mathlib.Core.Path.{sym, ◌∙◌}
 use Rattle.reader.proofs.Exits.{locate_gone, locate_eof, locate_at, locate_lost, locate_shapeless}
-use borrow.Author.Rules.{rules}
 use Rattle.reader.proofs.pages.locate_in.Goals as goal
 
 pub returns-then-seq-f : goal.returns-then-seq-f

@@ -2,7 +2,6 @@
 -- Assumes nothing.
 use mathlib.Core.Path.{sym, ◌∙◌, ap}
 use borrow.Author.Tests.{not-true, not-false}
-use borrow.Author.Rules.{rules}
 use Rattle.reader.specs.Turn.{opening}
 use Rattle.reader.proofs.Exits.{open_lost, open_unread, open_read}
 use Rattle.reader.proofs.pages.open_at.Goals as goal

@@ -3,7 +3,6 @@
 use mathlib.Core.Path.{sym, ◌∙◌, ap}
 use Rattle.reader.specs.Turn.{opening}
 use Rattle.reader.proofs.Exits.{open_below, open_past, opening_holds}
-use borrow.Author.Rules.{rules}
 use Rattle.reader.proofs.pages.open_by.Goals as goal
 
 pub returns-then-seq-h : goal.returns-then-seq-h

@@ -2,7 +2,6 @@
 -- Assumes nothing.
 use mathlib.Core.Path.{◌∙◌}
 use Rattle.reader.proofs.Exits.{skip_none, skip_gone, skip_eof, skip_short, skip_lands}
-use borrow.Author.Rules.{rules}
 use Rattle.reader.proofs.pages.skip_in.Goals as goal
 
 pub returns-then-len-eq0 : goal.returns-then-len-eq0

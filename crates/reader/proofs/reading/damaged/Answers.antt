@@ -1,7 +1,6 @@
 -- `reader::reading::damaged` meets its contract.
 -- Assumes nothing.
 use Rattle.reader.proofs.Bytes.{read_zeroed}
-use borrow.Author.Rules.{rules}
 use Rattle.reader.proofs.reading.damaged.Goals as goal
 
 pub returns : goal.returns

@@ -2,10 +2,9 @@
 -- Assumes nothing.
 -- what a turn leaves
 use mathlib.Core.Path.{◌≡◌, refl, sym, ◌∙◌}
-use Prim.Native.Nat.{◌+◌, ◌≤◌, ◌-◌}
+use Prim.Native.Nat.{◌+◌, ◌≤◌}
 use native.Mathlib.Omega.{arith}
 use lib.ListN.{length}
-use borrow.Author.Rules.{rules}
 use Rattle.reader.proofs.Bytes.{bytes, rest, rest_first, turn_none, turn_again, turn_less, read_damaged, read_done}
 use Rattle.reader.proofs.reading.read_bytes.Goals as goal
 use Rattle.reader.proofs.reading.read_bytes.Goals.{Else-n-eq0}

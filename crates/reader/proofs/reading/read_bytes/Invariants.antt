@@ -1,12 +1,10 @@
 -- `reader::reading::read_bytes` meets its contract: what is read so far with what is left to read is what the whole read gives.
 -- Assumes nothing.
 -- what a turn leaves
-use mathlib.Core.Path.{◌≡◌, refl, sym, ◌∙◌}
-use Prim.Native.Nat.{◌+◌, ◌≤◌, ◌-◌}
-use native.Mathlib.Omega.{arith}
+use mathlib.Core.Path.{◌≡◌}
+use Prim.Native.Nat.{◌≤◌, ◌-◌}
 use lib.ListN.{length}
-use borrow.Author.Rules.{rules}
-use Rattle.reader.proofs.Bytes.{bytes, rest, rest_first, turn_none, turn_again, turn_less, read_damaged, read_done}
+use Rattle.reader.proofs.Bytes.{bytes, rest}
 use Rattle.reader.proofs.reading.read_bytes.Given as goal
 
 abbrev pub invariant-loop-done : goal.invariant-loop-done

@@ -2,7 +2,6 @@
 -- Assumes nothing.
 use mathlib.Core.Path.{sym, ◌∙◌}
 use Rattle.reader.proofs.Exits.{read_none, read_gone, read_eof, read_short, read_shaped, read_shapeless}
-use borrow.Author.Rules.{rules}
 use Rattle.reader.proofs.reading.read_in.Goals as goal
 
 pub returns-then-n-eq0 : goal.returns-then-n-eq0

@@ -1,7 +1,6 @@
 -- `reader::reading::read_page` meets its contract: one page gives what is left of it, or of the output.
 -- Assumes nothing.
 use Rattle.reader.proofs.Bytes.{turn_shut, turn_shown}
-use borrow.Author.Rules.{rules}
 use Rattle.reader.proofs.reading.read_page.Goals as goal
 
 pub returns-then-page : goal.returns-then-page

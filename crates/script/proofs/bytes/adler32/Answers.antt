@@ -1,12 +1,11 @@
 -- `script::bytes::adler32` meets its contract.
 -- Assumes nothing.
-use borrow.Author.Rules.{rules}
 use Rattle.script.proofs.Laws.{adler_more}
 use Rattle.script.specs.Bytes.{adler}
 use native.Mathlib.Omega.{arith}
-use lib.ListN.{length, drop, drop_of_length-le}
+use lib.ListN.{drop, drop_of_length-le}
 use mathlib.Core.Path.{◌≡◌, refl, sym, ◌∙◌}
-use Prim.Native.Nat.{◌+◌, ◌*◌, ◌≤◌, ◌<◌, ◌-◌}
+use Prim.Native.Nat.{◌+◌, ◌*◌}
 use Rattle.script.proofs.bytes.adler32.Goals as goal
 
 pub loop-i-init : goal.loop-i-init

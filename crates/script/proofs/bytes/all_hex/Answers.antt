@@ -1,14 +1,12 @@
 -- `script::bytes::all_hex` meets its contract.
 -- Assumes nothing.
-use borrow.Author.Rules.{rules}
 use Rattle.script.proofs.Laws.{hex_all_more}
 use Rattle.script.specs.Bytes.{all_hex}
 use borrow.Author.Tests.{lt-ltb, le-ltb}
 use native.Mathlib.Omega.{arith}
-use lib.ListN.{length, drop, drop_of_length-le}
+use lib.ListN.{drop, drop_of_length-le}
 use mathlib.Core.Bool.{true}
 use mathlib.Core.Path.{◌≡◌, refl, sym, ◌∙◌}
-use Prim.Native.Nat.{◌≤◌, ◌-◌}
 use Rattle.script.proofs.bytes.all_hex.Goals as goal
 
 pub loop-i-init : goal.loop-i-init

@@ -1,14 +1,12 @@
 -- `script::bytes::decode` meets its contract.
 -- Assumes nothing.
-use borrow.Author.Rules.{rules}
 use Rattle.script.proofs.Laws.{hex_at, bytes_length, bytes_end, byte_stored, splice_none}
 use Rattle.script.specs.Bytes.{hex_value, bytes_of}
-use Rattle.runs.specs.Runs.{splice}
 use Rattle.runs.proofs.Laws.{placed_in}
 use native.Mathlib.Omega.{arith}
-use lib.ListN.{length, drop, get_or, length-set}
+use lib.ListN.{length, get_or, length-set}
 use mathlib.Core.Path.{◌≡◌, refl, sym, ◌∙◌}
-use Prim.Native.Nat.{◌+◌, ◌*◌, ◌≤◌, ◌<◌, ◌-◌}
+use Prim.Native.Nat.{◌+◌, ◌*◌, ◌≤◌, ◌<◌}
 use Rattle.script.proofs.bytes.decode.Goals as goal
 
 pub loop-i-init : goal.loop-i-init

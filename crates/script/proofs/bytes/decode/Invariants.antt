@@ -1,14 +1,10 @@
 -- `script::bytes::decode` meets its contract.
 -- Assumes nothing.
-use borrow.Author.Rules.{rules}
-use Rattle.script.proofs.Laws.{hex_at, bytes_length, bytes_end, byte_stored, splice_none}
-use Rattle.script.specs.Bytes.{hex_value, bytes_of}
+use Rattle.script.specs.Bytes.{bytes_of}
 use Rattle.runs.specs.Runs.{splice}
-use Rattle.runs.proofs.Laws.{placed_in}
-use native.Mathlib.Omega.{arith}
-use lib.ListN.{length, drop, get_or, length-set}
-use mathlib.Core.Path.{◌≡◌, refl, sym, ◌∙◌}
-use Prim.Native.Nat.{◌+◌, ◌*◌, ◌≤◌, ◌<◌, ◌-◌}
+use lib.ListN.{length, drop}
+use mathlib.Core.Path.{◌≡◌}
+use Prim.Native.Nat.{◌*◌, ◌≤◌, ◌-◌}
 use Rattle.script.proofs.bytes.decode.Given as goal
 
 abbrev pub invariant-loop-i : goal.invariant-loop-i

@@ -1,18 +1,15 @@
 -- `script::bytes::fill` meets its contract.
 -- Assumes nothing.
-use borrow.Author.Rules.{rules}
 use native.Mathlib.Nat.{sub-zero}
 use Rattle.script.proofs.Laws.{ramp_length, ramp_stored, splice_none}
 use Rattle.script.specs.Bytes.{next_byte, ramp}
-use Rattle.runs.specs.Runs.{splice}
 use Rattle.runs.proofs.Laws.{splice_all}
 use borrow.Author.Tests.{lt-ltb, le-ltb}
 use native.Mathlib.Omega.{arith}
 use lib.ListN.{length, length-set}
 use mathlib.Core.List.{[]}
-use mathlib.Core.Logic.{⊎_elim}
 use mathlib.Core.Path.{◌≡◌, refl, sym, ◌∙◌}
-use Prim.Native.Nat.{◌≤◌, ◌<◌, ◌-◌, ◌%◌}
+use Prim.Native.Nat.{◌<◌, ◌-◌, ◌%◌}
 use Rattle.script.proofs.bytes.fill.Goals as goal
 use Rattle.script.proofs.bytes.fill.Goals.{then-b-lt250, else-b-lt250}
 
@@ -27,8 +24,8 @@ loop-i-preserved c = let a = c.args in
     let h : l.i < n = omega arith in
     let e : c.if-b-lt250.b ≡ next_byte l.b =
     elim c.if-b-lt250.branch [
-      then-b-lt250 w ↦ w.b-is ∙ sym (rw (lt-ltb _ _ w.if-b-lt250.true))
-    | else-b-lt250 w ↦ w.b-is ∙ sym (rw (le-ltb _ _ w.if-b-lt250.false))
+      | then-b-lt250 w ↦ w.b-is ∙ sym (rw (lt-ltb _ _ w.if-b-lt250.true))
+      | else-b-lt250 w ↦ w.b-is ∙ sym (rw (le-ltb _ _ w.if-b-lt250.false))
     ] in
     let m : c.if-b-lt250.b < 251 = elim c.if-b-lt250.branch [ then-b-lt250 w ↦ omega arith | else-b-lt250 w ↦ omega arith ] in
     (omega arith, m, simp length-set l.invariant.2, rw e (ramp_stored l.out n l.i l.b h k) ∙ l.invariant.3)

@@ -1,18 +1,10 @@
 -- `script::bytes::fill` meets its contract.
 -- Assumes nothing.
-use borrow.Author.Rules.{rules}
-use native.Mathlib.Nat.{sub-zero}
-use Rattle.script.proofs.Laws.{ramp_length, ramp_stored, splice_none}
-use Rattle.script.specs.Bytes.{next_byte, ramp}
+use Rattle.script.specs.Bytes.{ramp}
 use Rattle.runs.specs.Runs.{splice}
-use Rattle.runs.proofs.Laws.{splice_all}
-use borrow.Author.Tests.{lt-ltb, le-ltb}
-use native.Mathlib.Omega.{arith}
-use lib.ListN.{length, length-set}
-use mathlib.Core.List.{[]}
-use mathlib.Core.Logic.{⊎_elim}
-use mathlib.Core.Path.{◌≡◌, refl, sym, ◌∙◌}
-use Prim.Native.Nat.{◌≤◌, ◌<◌, ◌-◌, ◌%◌}
+use lib.ListN.{length}
+use mathlib.Core.Path.{◌≡◌}
+use Prim.Native.Nat.{◌≤◌, ◌<◌, ◌-◌}
 use Rattle.script.proofs.bytes.fill.Given as goal
 
 abbrev pub invariant-loop-i : goal.invariant-loop-i

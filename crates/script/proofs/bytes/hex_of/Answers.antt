@@ -1,6 +1,5 @@
 -- `script::bytes::hex_of` meets its contract.
 -- Assumes nothing.
-use borrow.Author.Rules.{rules}
 use Rattle.script.specs.Bytes.{is_run, run_of, decoded}
 use borrow.Author.Tests.{eq-eqb, ne_eqb, le-leb, lt-leb}
 use mathlib.Core.Path.{sym, ◌∙◌}

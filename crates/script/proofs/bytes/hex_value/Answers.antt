@@ -1,6 +1,5 @@
 -- `script::bytes::hex_value` meets its contract.
 -- Assumes nothing.
-use borrow.Author.Rules.{rules}
 use Rattle.script.specs.Bytes.{hex_value}
 use borrow.Author.Tests.{lt-ltb, le-ltb, le-leb, lt-leb}
 use Rattle.script.proofs.bytes.hex_value.Goals as goal

@@ -1,6 +1,5 @@
 -- `script::bytes::more` meets its contract.
 -- Assumes nothing.
-use borrow.Author.Rules.{rules}
 use Rattle.script.specs.Bytes.{more}
 use borrow.Author.Tests.{lt-ltb, le-ltb}
 use Rattle.script.proofs.bytes.more.Goals as goal

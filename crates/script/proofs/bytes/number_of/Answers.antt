@@ -1,14 +1,12 @@
 -- `script::bytes::number_of` meets its contract. The invariant: what the digits that are left add gives the whole's number.
 -- Assumes nothing.
-use borrow.Author.Rules.{rules}
 use Rattle.script.proofs.Laws.{digits_more, digits_bad}
 use Rattle.script.specs.Bytes.{more, digits, number_of}
 use Rattle.script.specs.declared.bytes.Number.TheVariants.{Is, Bad}
 use borrow.Author.Tests.{eq-eqb, ne_eqb}
 use native.Mathlib.Omega.{arith}
-use lib.ListN.{length, drop, get_or, drop_of_length-le}
+use lib.ListN.{drop, get_or, drop_of_length-le}
 use mathlib.Core.Path.{◌≡◌, sym, ◌∙◌}
-use Prim.Native.Nat.{◌≤◌, ◌-◌}
 use Rattle.script.proofs.bytes.number_of.Goals as goal
 
 pub returns-then-word-eq0 : goal.returns-then-word-eq0

@@ -1,6 +1,5 @@
 -- `script::bytes::zero_in_front` meets its contract.
 -- Assumes nothing.
-use borrow.Author.Rules.{rules}
 use borrow.Author.Tests.{lt-ltb, le-ltb}
 use Rattle.script.proofs.bytes.zero_in_front.Goals as goal
 

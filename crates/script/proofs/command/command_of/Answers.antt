@@ -2,7 +2,6 @@
 -- Assumes nothing.
 use Rattle.script.specs.Command.{command_of}
 use borrow.Author.Tests.{eq-eqb, ne_eqb, lt-ltb, le-ltb}
-use borrow.Author.Rules.{rules}
 use Rattle.script.proofs.command.command_of.Goals as goal
 
 pub returns-then-line-eq0 : goal.returns-then-line-eq0

@@ -1,6 +1,5 @@
 -- `script::command::fill` meets its contract.
 -- Assumes nothing.
-use borrow.Author.Rules.{rules}
 use Rattle.script.proofs.command.fill.Goals as goal
 
 pub returns-in-Two : goal.returns-in-Two

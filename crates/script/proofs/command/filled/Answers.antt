@@ -13,7 +13,6 @@ use mathlib.Core.Path.{◌≡◌, ap, ◌∙◌}
 use Prim.Native.Nat.{◌-◌, ◌%◌}
 use Rattle.script.specs.Command.{filled_by}
 use borrow.Author.Tests.{lt-ltb, le-ltb}
-use borrow.Author.Rules.{rules}
 use Rattle.script.proofs.command.filled.Goals as goal
 
 pub returns-then-n-gt-BYTES_MAX : goal.returns-then-n-gt-BYTES_MAX

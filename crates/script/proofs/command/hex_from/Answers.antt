@@ -5,7 +5,6 @@ use Rattle.script.specs.Bytes.{run_of, decoded, is_run}
 use native.Mathlib.Omega.{arith}
 use lib.ListN.{length, drop_of_length-le}
 use Prim.Native.Nat.{◌≤◌}
-use borrow.Author.Rules.{rules}
 use Rattle.script.proofs.command.hex_from.Goals as goal
 
 pub returns-then-line-from : goal.returns-then-line-from

@@ -2,7 +2,6 @@
 -- Assumes nothing.
 use Rattle.script.specs.Command.{named}
 use Rattle.script.proofs.Words.{words_first}
-use borrow.Author.Rules.{rules}
 use Rattle.script.proofs.command.named.Goals as goal
 
 pub returns-then-is : goal.returns-then-is

@@ -3,7 +3,6 @@
 use Rattle.script.proofs.Words.{from_past, from_next, last_numbers, next_in, next_numbers, bad_numbers}
 use mathlib.Core.Path.{sym, ◌∙◌}
 use Rattle.script.specs.Command.{numbers}
-use borrow.Author.Rules.{rules}
 use Rattle.script.proofs.command.numbers_at.Goals as goal
 
 pub returns-then-line-from : goal.returns-then-line-from

@@ -1,7 +1,6 @@
 -- `script::command::of_bytes` meets its contract.
 -- Assumes nothing.
 use borrow.Author.Tests.{lt-ltb, le-ltb}
-use borrow.Author.Rules.{rules}
 use Rattle.script.proofs.command.of_bytes.Goals as goal
 
 pub returns-then-b-gt255 : goal.returns-then-b-gt255

@@ -1,7 +1,6 @@
 -- `script::command::of_numbers` meets its contract.
 -- Assumes nothing.
 use Rattle.script.specs.Command.{of_numbers}
-use borrow.Author.Rules.{rules}
 use Rattle.script.proofs.command.of_numbers.Goals as goal
 
 pub returns-in-None : goal.returns-in-None

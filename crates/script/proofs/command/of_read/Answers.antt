@@ -1,7 +1,6 @@
 -- `script::command::of_read` meets its contract.
 -- Assumes nothing.
 use borrow.Author.Tests.{lt-ltb, le-ltb}
-use borrow.Author.Rules.{rules}
 use Rattle.script.proofs.command.of_read.Goals as goal
 
 pub returns-then-n-gt-BYTES_MAX : goal.returns-then-n-gt-BYTES_MAX

@@ -1,7 +1,6 @@
 -- `script::command::of_three` meets its contract.
 -- Assumes nothing.
 use borrow.Author.Tests.{lt-ltb, le-ltb}
-use borrow.Author.Rules.{rules}
 use Rattle.script.proofs.command.of_three.Goals as goal
 
 pub returns-then-a-gt255 : goal.returns-then-a-gt255

@@ -1,6 +1,5 @@
 -- `script::command::of_two` meets its contract.
 -- Assumes nothing.
-use borrow.Author.Rules.{rules}
 use Rattle.script.proofs.command.of_two.Goals as goal
 
 pub returns : goal.returns

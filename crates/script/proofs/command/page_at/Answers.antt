@@ -1,6 +1,5 @@
 -- `script::command::page_at` meets its contract.
 -- Assumes nothing.
-use borrow.Author.Rules.{rules}
 use Rattle.script.proofs.command.page_at.Goals as goal
 
 pub returns-in-Last : goal.returns-in-Last

@@ -1,6 +1,5 @@
 -- `script::command::pick` meets its contract.
 -- Assumes nothing.
-use borrow.Author.Rules.{rules}
 use Rattle.script.proofs.command.pick.Goals as goal
 
 pub returns-then-is : goal.returns-then-is

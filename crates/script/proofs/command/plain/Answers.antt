@@ -1,6 +1,5 @@
 -- `script::command::plain` meets its contract.
 -- Assumes nothing.
-use borrow.Author.Rules.{rules}
 use Rattle.script.proofs.command.plain.Goals as goal
 
 pub returns : goal.returns

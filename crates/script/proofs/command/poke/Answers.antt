@@ -2,7 +2,6 @@
 -- Assumes nothing.
 use Rattle.script.proofs.Words.{poke_next, poke_last, poke_bad}
 use mathlib.Core.Path.{sym, ◌∙◌}
-use borrow.Author.Rules.{rules}
 use Rattle.script.proofs.command.poke.Goals as goal
 
 pub returns-in-Next : goal.returns-in-Next

@@ -3,7 +3,6 @@
 use Rattle.script.specs.Command.{poking}
 use Rattle.script.proofs.Words.{carry}
 use mathlib.Core.Bool.{true, false}
-use borrow.Author.Rules.{rules}
 use Rattle.script.proofs.command.poke_at.Goals as goal
 
 pub returns-in_default : goal.returns-in_default

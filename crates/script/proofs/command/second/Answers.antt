@@ -2,7 +2,6 @@
 -- Assumes nothing.
 use Rattle.script.proofs.Words.{last_numbers, next_in, next_numbers, bad_numbers}
 use mathlib.Core.Path.{sym, ◌∙◌}
-use borrow.Author.Rules.{rules}
 use Rattle.script.proofs.command.second.Goals as goal
 
 pub third-requires : goal.third-requires

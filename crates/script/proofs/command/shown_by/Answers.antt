@@ -1,6 +1,5 @@
 -- `script::command::shown_by` meets its contract.
 -- Assumes nothing.
-use borrow.Author.Rules.{rules}
 use Rattle.script.proofs.command.shown_by.Goals as goal
 
 pub returns : goal.returns

@@ -2,7 +2,6 @@
 -- Assumes nothing.
 use Rattle.script.proofs.Words.{last_numbers, too_many, bad_numbers}
 use mathlib.Core.Path.{sym, ◌∙◌}
-use borrow.Author.Rules.{rules}
 use Rattle.script.proofs.command.third.Goals as goal
 
 pub returns-in-Last : goal.returns-in-Last

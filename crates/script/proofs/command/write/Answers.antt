@@ -4,7 +4,6 @@ use Rattle.script.specs.declared.command.Command.TheVariants.{Writing}
 use Rattle.script.specs.declared.command.Writing.TheVariants.{Write}
 use Rattle.script.proofs.Words.{from_past, from_next, write_rest, carry}
 use Rattle.script.specs.Command.{written}
-use borrow.Author.Rules.{rules}
 use Rattle.script.proofs.command.write.Goals as goal
 
 pub returns-then-line-from : goal.returns-then-line-from

@@ -1,7 +1,6 @@
 -- `script::say::done` meets its contract.
 -- Assumes nothing.
 use Rattle.script.specs.Say.{done}
-use borrow.Author.Rules.{rules}
 use Rattle.script.proofs.say.done.Goals as goal
 
 pub returns-in-Done : goal.returns-in-Done

@@ -1,14 +1,10 @@
 -- `script::say::form` meets its contract.
 -- Assumes nothing.
-use borrow.Author.Rules.{rules}
-use Rattle.script.proofs.Laws.{here}
 use Rattle.script.specs.Text.{spot, puts}
 use Rattle.script.specs.Say.{formed}
-use native.Mathlib.Omega.{arith}
-use lib.ListN.{length, drop, get_or, drop_of_length-le}
-use mathlib.Core.List.{◌∷◌}
-use mathlib.Core.Path.{◌≡◌, refl, ◌∙◌}
-use Prim.Native.Nat.{◌+◌, ◌-◌, ◌≤◌, ◌<◌}
+use lib.ListN.{length, drop}
+use mathlib.Core.Path.{◌≡◌}
+use Prim.Native.Nat.{◌-◌, ◌≤◌}
 use Rattle.script.proofs.say.form.Given as goal
 
 abbrev pub invariant-loop-i : goal.invariant-loop-i

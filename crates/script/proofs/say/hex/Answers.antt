@@ -3,7 +3,6 @@
 use Rattle.script.specs.Say.{hex}
 use Rattle.script.specs.Text.{puts}
 use borrow.Author.Tests.{eq-eqb, ne_eqb}
-use borrow.Author.Rules.{rules}
 use Rattle.script.proofs.say.hex.Goals as goal
 
 pub returns-then-bytes-eq0 : goal.returns-then-bytes-eq0

@@ -1,7 +1,6 @@
 -- `script::say::number` meets its contract.
 -- Assumes nothing.
 use Rattle.script.proofs.Pieces.{decimal_is}
-use borrow.Author.Rules.{rules}
 use Rattle.script.proofs.say.number.Goals as goal
 
 pub returns : goal.returns

@@ -9,7 +9,6 @@ use mathlib.Core.List.{[]}
 use mathlib.Core.Path.{◌≡◌, sym, ap}
 use native.Mathlib.Omega.{arith}
 use Prim.Native.Nat.{◌+◌, ◌≤◌, ◌<◌}
-use borrow.Author.Rules.{rules}
 use Rattle.script.proofs.say.part.Goals as goal
 
 pub returns-then-form-from : goal.returns-then-form-from

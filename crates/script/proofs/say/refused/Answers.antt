@@ -1,6 +1,5 @@
 -- `script::say::refused` meets its contract.
 -- Assumes nothing.
-use borrow.Author.Rules.{rules}
 use Rattle.script.proofs.say.refused.Goals as goal
 
 pub returns : goal.returns

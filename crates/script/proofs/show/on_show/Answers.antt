@@ -1,6 +1,5 @@
 -- `script::show::on_show` meets its contract.
 -- Assumes nothing.
-use borrow.Author.Rules.{rules}
 use Rattle.script.proofs.show.on_show.Goals as goal
 
 pub returns-in-State : goal.returns-in-State

@@ -2,7 +2,6 @@
 -- Assumes nothing.
 use Rattle.script.specs.Show.{file_shown, fields_shown, links_shown}
 use Rattle.script.proofs.Pieces.{puts_then}
-use borrow.Author.Rules.{rules}
 use Rattle.script.proofs.show.show_file.Goals as goal
 
 pub returns : goal.returns

@@ -1,9 +1,9 @@
 -- `script::show::show_image` meets its contract.
 -- Assumes nothing.
-use Rattle.script.specs.Show.{lines, sum_shown, image_shown}
+use Rattle.script.specs.Show.{sum_shown, image_shown}
 use borrow.Author.Rules.{rules}
 use Rattle.script.proofs.Pieces.{puts_more, lines_step, lines_end}
-use Rattle.script.specs.Text.{spot, puts}
+use Rattle.script.specs.Text.{spot}
 use native.Mathlib.Omega.{arith}
 use lib.ListN.{length}
 use mathlib.Core.Path.{◌≡◌, refl, sym, ◌∙◌}

@@ -2,7 +2,6 @@
 -- Assumes nothing.
 use Rattle.script.specs.Show.{page_shown}
 use borrow.Author.Tests.{eq-eqb, ne_eqb}
-use borrow.Author.Rules.{rules}
 use Rattle.script.proofs.show.show_page.Goals as goal
 
 pub returns-then-bytes-eq0 : goal.returns-then-bytes-eq0

@@ -2,7 +2,6 @@
 -- Assumes nothing.
 use Rattle.script.specs.Show.{search_shown}
 use Rattle.script.specs.Text.{puts}
-use borrow.Author.Rules.{rules}
 use Rattle.script.proofs.show.show_search.Goals as goal
 
 pub returns-then-q : goal.returns-then-q

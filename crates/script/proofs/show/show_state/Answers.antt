@@ -2,7 +2,6 @@
 -- Assumes nothing.
 use Rattle.script.specs.Show.{state_shown}
 use Rattle.script.proofs.Pieces.{puts_more}
-use borrow.Author.Rules.{rules}
 use Rattle.script.proofs.show.show_state.Goals as goal
 
 pub returns-then-is_mounted : goal.returns-then-is_mounted

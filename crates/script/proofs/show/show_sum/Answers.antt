@@ -2,7 +2,6 @@
 -- Assumes nothing.
 use Rattle.script.specs.Show.{sum_shown}
 use Rattle.script.specs.Text.{puts}
-use borrow.Author.Rules.{rules}
 use Rattle.script.proofs.show.show_sum.Goals as goal
 
 pub returns-then-all_erased : goal.returns-then-all_erased

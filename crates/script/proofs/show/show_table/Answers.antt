@@ -1,14 +1,12 @@
 -- `script::show::show_table` meets its contract.
 -- Assumes nothing.
-use Rattle.script.specs.Show.{file_shown, lines}
+use Rattle.script.specs.Show.{file_shown}
 use Rattle.state.specs.Values.{file_at}
 use borrow.Author.Rules.{rules}
 use Rattle.script.proofs.Pieces.{lines_step, lines_end}
-use Rattle.script.specs.Text.{spot, puts}
 use native.Mathlib.Omega.{arith}
-use lib.ListN.{length}
-use mathlib.Core.Path.{◌≡◌, refl, sym, ◌∙◌}
-use Prim.Native.Nat.{◌-◌, ◌≤◌, ◌<◌}
+use mathlib.Core.Path.{refl, sym, ◌∙◌}
+use Prim.Native.Nat.{◌≤◌, ◌<◌}
 use Rattle.script.proofs.show.show_table.Goals as goal
 
 pub loop-i-init : goal.loop-i-init

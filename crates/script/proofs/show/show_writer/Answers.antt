@@ -2,7 +2,6 @@
 -- Assumes nothing.
 use Rattle.script.specs.Show.{writer_shown}
 use Rattle.script.specs.Text.{puts}
-use borrow.Author.Rules.{rules}
 use Rattle.script.proofs.show.show_writer.Goals as goal
 
 pub returns-then-w : goal.returns-then-w

@@ -1,6 +1,5 @@
 -- `script::text::digit` meets its contract.
 -- Assumes nothing.
-use borrow.Author.Rules.{rules}
 use borrow.Author.Tests.{lt-ltb, le-ltb}
 use Rattle.script.proofs.text.digit.Goals as goal
 

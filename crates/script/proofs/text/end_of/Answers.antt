@@ -1,7 +1,6 @@
 -- `script::text::end_of` meets its contract.
 -- Assumes nothing.
 use Rattle.script.specs.Text.{behind}
-use borrow.Author.Rules.{rules}
 use borrow.Author.Tests.{lt-leb, le-leb}
 use native.Mathlib.Omega.{arith}
 use Prim.Native.Nat.{◌+◌, ◌<◌, ◌≤◌}

@@ -1,14 +1,9 @@
 -- `script::text::is` meets its contract.
 -- Assumes nothing.
-use Rattle.script.proofs.Laws.{same_apart, same_more}
-use mathlib.Core.Bool.{true}
 use Rattle.script.specs.Text.{same}
-use borrow.Author.Rules.{rules}
-use borrow.Author.Tests.{eq-eqb, ne_eqb}
-use native.Mathlib.Omega.{arith}
-use lib.ListN.{length, drop, drop_of_length-le}
-use mathlib.Core.Path.{◌≡◌, refl, sym, ◌∙◌}
-use Prim.Native.Nat.{◌≤◌, ◌<◌, ◌-◌}
+use lib.ListN.{length, drop}
+use mathlib.Core.Path.{◌≡◌}
+use Prim.Native.Nat.{◌≤◌, ◌-◌}
 use Rattle.script.proofs.text.is.Given as goal
 
 abbrev pub invariant-loop-i : goal.invariant-loop-i

@@ -1,7 +1,6 @@
 -- `script::text::put` meets its contract.
 -- Assumes nothing.
 use Rattle.script.specs.Text.{put}
-use borrow.Author.Rules.{rules}
 use Rattle.script.proofs.text.put.Goals as goal
 
 pub returns : goal.returns

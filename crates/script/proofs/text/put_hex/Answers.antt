@@ -6,12 +6,11 @@ use mathlib.Core.List.{[]}
 use Rattle.script.specs.Text.{behind, hex_digits, put}
 use Rattle.runs.specs.Runs.{splice}
 use Rattle.runs.proofs.Laws.{placed_in, placed_out}
-use borrow.Author.Rules.{rules}
 use borrow.Author.Tests.{lt-leb, le-leb}
 use native.Mathlib.Omega.{arith}
 use lib.ListN.{length, drop, drop_of_length-le, length-set}
 use mathlib.Core.Path.{◌≡◌, refl, sym, ◌∙◌}
-use Prim.Native.Nat.{◌+◌, ◌*◌, ◌≤◌, ◌<◌, ◌-◌}
+use Prim.Native.Nat.{◌+◌, ◌*◌, ◌≤◌, ◌<◌}
 use Rattle.script.proofs.text.put_hex.Goals as goal
 
 pub returns-then-room-at : goal.returns-then-room-at

@@ -2,11 +2,10 @@
 -- Assumes nothing.
 use Rattle.script.proofs.Laws.{until_more, until_hit}
 use Rattle.script.specs.Text.{until}
-use borrow.Author.Rules.{rules}
 use borrow.Author.Tests.{eq-eqb, ne_eqb}
 use native.Mathlib.Omega.{arith}
-use lib.ListN.{length, take, drop, drop_of_length-le}
-use mathlib.Core.List.{◌++◌, append-nil}
+use lib.ListN.{length, drop_of_length-le}
+use mathlib.Core.List.{append-nil}
 use mathlib.Core.Path.{◌≡◌, refl, sym, ◌∙◌}
 use Prim.Native.Nat.{◌≤◌, ◌-◌}
 use Rattle.script.proofs.text.until.Goals as goal

@@ -1,13 +1,9 @@
 -- `script::text::until` meets its contract. The invariant: the part so far, and what the search behind it gives, is what the whole gives.
 -- Assumes nothing.
-use Rattle.script.proofs.Laws.{until_more, until_hit}
 use Rattle.script.specs.Text.{until}
-use borrow.Author.Rules.{rules}
-use borrow.Author.Tests.{eq-eqb, ne_eqb}
-use native.Mathlib.Omega.{arith}
-use lib.ListN.{length, take, drop, drop_of_length-le}
-use mathlib.Core.List.{◌++◌, append-nil}
-use mathlib.Core.Path.{◌≡◌, refl, sym, ◌∙◌}
+use lib.ListN.{length, take, drop}
+use mathlib.Core.List.{◌++◌}
+use mathlib.Core.Path.{◌≡◌}
 use Prim.Native.Nat.{◌≤◌, ◌-◌}
 use Rattle.script.proofs.text.until.Given as goal
 

@@ -1,6 +1,5 @@
 -- The cycle of calls really_seek, seek_to_page.
 -- Assumes nothing.
-use Prim.Native.Nat.{ℕ, ◌+◌}
 use mathlib.Core.Path.{◌∙◌, ap}
 use native.Mathlib.Omega.{arith}
 use Rattle.chain.specs.Steps.{read_at}

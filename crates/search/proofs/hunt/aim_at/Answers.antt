@@ -5,7 +5,6 @@ use native.Mathlib.Omega.{arith}
 use lib.ListN.{get_or}
 use Rattle.search.specs.declared.hunt.Aim.TheVariants.{At}
 use Rattle.search.proofs.Levels.{aim_empty, aim_none, aim_low, aim_tries}
-use borrow.Author.Rules.{rules}
 use Rattle.search.proofs.hunt.aim_at.Goals as goal
 
 pub returns-then-right-left : goal.returns-then-right-left

@@ -4,7 +4,6 @@ use Prim.Native.Nat.{◌+◌}
 use native.Mathlib.Omega.{arith}
 use borrow.Author.Tests.{le-ltb}
 use Rattle.seq.specs.Seq.{level}
-use borrow.Author.Rules.{rules}
 use Rattle.search.proofs.hunt.first_level.Goals as goal
 
 pub returns-then-right-left : goal.returns-then-right-left

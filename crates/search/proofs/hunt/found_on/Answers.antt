@@ -1,7 +1,6 @@
 -- `search::hunt::found_on` meets its contract: the tests that led to each return say which case it is.
 -- Assumes nothing.
 use Rattle.search.proofs.Pages.{found_far, found_above, found_left, found_past, found_hit}
-use borrow.Author.Rules.{rules}
 use Rattle.search.proofs.hunt.found_on.Goals as goal
 
 pub returns-then-boundary-ge224 : goal.returns-then-boundary-ge224

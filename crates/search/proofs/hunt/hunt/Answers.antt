@@ -4,7 +4,6 @@ use Prim.Native.Nat.{◌+◌}
 use mathlib.Core.Path.{◌∙◌}
 use native.Mathlib.Omega.{arith}
 use Rattle.seq.proofs.Laws.{level_le}
-use borrow.Author.Rules.{rules}
 use Rattle.search.proofs.hunt.hunt.Goals as goal
 
 pub really_seek-requires : goal.really_seek-requires

@@ -3,7 +3,6 @@
 use Rattle.page.proofs.Headers.{given_read, given_none}
 use Rattle.chain.specs.Steps.{read_at}
 use Rattle.search.proofs.Pages.{none_no, outside_no, inside_yes, look_no, look_unread, look_read}
-use borrow.Author.Rules.{rules}
 use Rattle.search.proofs.hunt.look_at.Goals as goal
 
 pub returns-then-id-eq65535 : goal.returns-then-id-eq65535

@@ -1,6 +1,5 @@
 -- `search::hunt::offer_on` meets its contract.
 -- Assumes nothing.
-use borrow.Author.Rules.{rules}
 use Rattle.search.proofs.hunt.offer_on.Goals as goal
 
 pub returns : goal.returns

@@ -2,7 +2,6 @@
 -- Assumes nothing.
 use mathlib.Core.Path.{sym, ◌∙◌}
 use Rattle.search.proofs.Pages.{seen_above, seen_past, seen_left, seen_found, seen_first, seen_back}
-use borrow.Author.Rules.{rules}
 use Rattle.search.proofs.hunt.seen_on.Goals as goal
 
 pub returns-then-limit-seq : goal.returns-then-limit-seq

@@ -1,7 +1,6 @@
 -- `search::hunt::target_of` meets its contract: a jump from above 0 by one of nine links is a number.
 -- Assumes nothing.
 use Rattle.search.proofs.Levels.{jumped}
-use borrow.Author.Rules.{rules}
 use Rattle.search.proofs.hunt.target_of.Goals as goal
 
 pub returns-in-Number : goal.returns-in-Number

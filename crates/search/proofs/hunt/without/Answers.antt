@@ -1,6 +1,5 @@
 -- `search::hunt::without` meets its contract.
 -- Assumes nothing.
-use borrow.Author.Rules.{rules}
 use Rattle.search.proofs.hunt.without.Goals as goal
 
 pub returns : goal.returns

@@ -3,7 +3,6 @@
 use mathlib.Core.Path.{sym, ◌∙◌}
 use Rattle.chain.specs.Steps.{read_at}
 use Rattle.search.proofs.Calls.{begun_empty, begun_hunts, begun_broken}
-use borrow.Author.Rules.{rules}
 use Rattle.search.proofs.search.begin.Goals as goal
 
 pub returns-then-f-eq65535 : goal.returns-then-f-eq65535

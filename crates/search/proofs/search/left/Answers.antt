@@ -1,6 +1,5 @@
 -- `search::search::left` meets its contract.
 -- Assumes nothing.
-use borrow.Author.Rules.{rules}
 use Rattle.search.proofs.search.left.Goals as goal
 
 pub returns : goal.returns

@@ -1,6 +1,5 @@
 -- `search::search::right` meets its contract.
 -- Assumes nothing.
-use borrow.Author.Rules.{rules}
 use Rattle.search.proofs.search.right.Goals as goal
 
 pub returns : goal.returns

@@ -6,7 +6,6 @@ use native.Mathlib.Omega.{arith}
 use Rattle.state.proofs.Laws.{checks_pass}
 use Rattle.search.specs.Search.{answer_numbers}
 use Rattle.search.proofs.Calls.{start_refused, start_replied}
-use borrow.Author.Rules.{rules}
 use Rattle.search.proofs.search.search.Goals as goal
 
 pub returns-in-Refused : goal.returns-in-Refused

@@ -3,7 +3,6 @@
 use Rattle.chain.specs.Steps.{read_at}
 use Rattle.search.specs.Hunt.{hunt}
 use Rattle.search.proofs.Calls.{reply_offered, reply_ended, reply_broken}
-use borrow.Author.Rules.{rules}
 use Rattle.search.proofs.search.sought.Goals as goal
 
 pub returns-in-Offered : goal.returns-in-Offered

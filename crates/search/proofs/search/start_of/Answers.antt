@@ -1,6 +1,5 @@
 -- `search::search::start_of` meets its contract.
 -- Assumes nothing.
-use borrow.Author.Rules.{rules}
 use Rattle.search.proofs.search.start_of.Goals as goal
 
 pub returns : goal.returns

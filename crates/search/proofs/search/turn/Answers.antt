@@ -6,7 +6,6 @@ use Rattle.state.specs.World.{before, in_numbers}
 use Rattle.state.proofs.Laws.{checks_pass, search_says}
 use Rattle.search.specs.Search.{answer_numbers, left_of, right_of}
 use Rattle.search.proofs.Calls.{answer_refused, answer_none, answer_replied, turned}
-use borrow.Author.Rules.{rules}
 use Rattle.search.proofs.search.turn.Goals as goal
 
 pub returns-in-Refused : goal.returns-in-Refused

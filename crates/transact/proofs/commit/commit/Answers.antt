@@ -8,7 +8,6 @@ use mathlib.Core.List.{[]}
 use Rattle.state.proofs.Laws.{checks_pass}
 use Rattle.transact.specs.Commit.{commit}
 use Rattle.transact.proofs.Exits.{refused_is, commit_refused, commit_none, commit_some, committed_is}
-use borrow.Author.Rules.{rules}
 use Rattle.transact.proofs.commit.commit.Goals as goal
 
 pub returns-in-Refused : goal.returns-in-Refused

@@ -4,7 +4,6 @@ use mathlib.Core.Path.{sym, ◌∙◌, ap}
 use Rattle.state.specs.World.{before, ended}
 use Rattle.metalog.proofs.Laws.{end_same}
 use Rattle.transact.proofs.Exits.{refused_is, batch_of, batch_damaged, tested_is, batch_fits, batch_moved, committed_is}
-use borrow.Author.Rules.{rules}
 use Rattle.transact.proofs.commit.commit_batch.Goals as goal
 
 pub returns-in_default : goal.returns-in_default

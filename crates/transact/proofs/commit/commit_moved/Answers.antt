@@ -6,7 +6,6 @@ use native.Mathlib.Omega.{arith}
 use Rattle.map.proofs.Laws.{alloc_same, alloc_found, beyond_inside}
 use Rattle.transact.specs.Commit.{moved}
 use Rattle.transact.proofs.Exits.{refused_is, moved_end, moved_full, moved_done}
-use borrow.Author.Rules.{rules}
 use Rattle.transact.proofs.commit.commit_moved.Goals as goal
 
 pub returns-then-state-eq4294967295 : goal.returns-then-state-eq4294967295

@@ -5,7 +5,6 @@ use mathlib.Core.List.{List}
 use Prim.Native.Nat.{ℕ}
 use lib.ListN.{set}
 use Rattle.map.specs.Map.{free, released}
-use borrow.Author.Rules.{rules}
 use Rattle.transact.proofs.commit.move_map.Goals as goal
 
 pub returns : goal.returns

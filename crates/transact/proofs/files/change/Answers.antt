@@ -1,7 +1,6 @@
 -- `transact::files::change` meets its contract.
 -- Assumes nothing.
 use Rattle.state.specs.Values.{with_file}
-use borrow.Author.Rules.{rules}
 use Rattle.transact.proofs.files.change.Goals as goal
 
 pub returns : goal.returns

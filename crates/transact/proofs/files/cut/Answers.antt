@@ -2,7 +2,6 @@
 -- Assumes nothing.
 use borrow.Author.Tests.{eq-eqb, ne_eqb}
 use Rattle.transact.specs.Truncate.{advanced, cut}
-use borrow.Author.Rules.{rules}
 use Rattle.transact.proofs.files.cut.Goals as goal
 
 pub returns-then-first-f : goal.returns-then-first-f

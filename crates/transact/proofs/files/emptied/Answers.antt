@@ -2,7 +2,6 @@
 -- Assumes nothing.
 use Rattle.state.specs.Values.{empty_record}
 use Rattle.transact.specs.Truncate.{emptied}
-use borrow.Author.Rules.{rules}
 use Rattle.transact.proofs.files.emptied.Goals as goal
 
 pub returns : goal.returns

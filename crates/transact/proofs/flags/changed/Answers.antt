@@ -1,6 +1,5 @@
 -- `transact::flags::changed` meets its contract: the check says which case it is.
 -- Assumes nothing.
-use borrow.Author.Rules.{rules}
 use mathlib.Core.Path.{sym, ◌∙◌}
 use Rattle.transact.specs.Rename.{flags}
 use Rattle.transact.proofs.flags.changed.Goals as goal

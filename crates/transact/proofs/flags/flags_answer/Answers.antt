@@ -2,7 +2,6 @@
 -- Assumes nothing.
 use mathlib.Core.Path.{sym, ◌∙◌}
 use Rattle.transact.specs.Flags.{flags_answer}
-use borrow.Author.Rules.{rules}
 use Rattle.transact.proofs.flags.flags_answer.Goals as goal
 
 pub returns-in-Refused : goal.returns-in-Refused

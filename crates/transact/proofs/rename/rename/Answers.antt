@@ -7,7 +7,6 @@ use native.Mathlib.Omega.{arith}
 use Rattle.state.proofs.Laws.{checks_pass}
 use Rattle.transact.specs.Rename.{rename}
 use Rattle.transact.proofs.Exits.{refused_is, rename_refused, rename_bad, rename_done}
-use borrow.Author.Rules.{rules}
 use Rattle.transact.proofs.rename.rename.Goals as goal
 
 pub returns-in-Refused : goal.returns-in-Refused

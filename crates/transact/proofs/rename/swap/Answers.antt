@@ -2,7 +2,6 @@
 -- Assumes nothing.
 use Rattle.state.specs.Values.{with_file}
 use Rattle.transact.specs.Rename.{swapped}
-use borrow.Author.Rules.{rules}
 use Rattle.transact.proofs.rename.swap.Goals as goal
 
 pub returns : goal.returns

@@ -7,7 +7,6 @@ use Rattle.metalog.specs.declared.Entry.{Entry}
 use Rattle.metalog.specs.declared.Files.{Files}
 use Rattle.metalog.specs.Batch.{chosen, batch_stores}
 use Rattle.transact.proofs.Entries.{table_eight, rows_dirty}
-use borrow.Author.Rules.{rules}
 use Rattle.transact.proofs.rows.append_dirty.Goals as goal
 
 pub returns : goal.returns

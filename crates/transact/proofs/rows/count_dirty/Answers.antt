@@ -2,7 +2,6 @@
 -- Assumes nothing.
 use mathlib.Core.Path.{◌∙◌}
 use Rattle.transact.proofs.Entries.{table_eight, rows_count}
-use borrow.Author.Rules.{rules}
 use Rattle.transact.proofs.rows.count_dirty.Goals as goal
 
 pub returns : goal.returns

@@ -1,11 +1,8 @@
 -- `transact::rows::rows_of` meets its contract: the rows of the first i records are there.
 -- Assumes nothing.
 use mathlib.Core.Path.{◌≡◌}
-use Prim.Native.Nat.{◌≤◌, ◌-◌}
 use native.Mathlib.Omega.{arith}
-use Rattle.transact.specs.Rows.{RowsTo}
 use Rattle.transact.proofs.Entries.{rows_none, rows_more}
-use borrow.Author.Rules.{rules}
 use Rattle.transact.proofs.rows.rows_of.Goals as goal
 
 pub loop-i-init : goal.loop-i-init

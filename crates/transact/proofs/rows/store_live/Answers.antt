@@ -7,7 +7,6 @@ use Rattle.metalog.specs.declared.Entry.{Entry}
 use Rattle.metalog.specs.declared.Files.{Files}
 use Rattle.metalog.specs.Batch.{chosen, new_meta_stores}
 use Rattle.transact.proofs.Entries.{table_eight, rows_live}
-use borrow.Author.Rules.{rules}
 use Rattle.transact.proofs.rows.store_live.Goals as goal
 
 pub returns : goal.returns

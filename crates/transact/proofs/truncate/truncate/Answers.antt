@@ -11,7 +11,6 @@ use Rattle.state.proofs.Laws.{checks_pass}
 use Rattle.state.specs.Values.{file_at}
 use Rattle.transact.specs.Truncate.{cut, unreached, held_all, truncate}
 use Rattle.transact.proofs.Exits.{refused_is, changed_is, truncate_refused, truncate_none, truncate_empty, truncate_damaged, truncate_held}
-use borrow.Author.Rules.{rules}
 use Rattle.transact.proofs.truncate.truncate.Goals as goal
 
 pub returns-in-Refused : goal.returns-in-Refused

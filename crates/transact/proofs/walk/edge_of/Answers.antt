@@ -3,7 +3,6 @@
 -- the record is in shape, and the first walk starts at its last page
 use mathlib.Core.Path.{◌≡◌, sym, ◌∙◌, ap}
 use mathlib.Core.Bool.{true, false≢true}
-use borrow.Author.Rules.{rules}
 use Rattle.chain.specs.Files.{last_of}
 use Rattle.chain.specs.Back.{place_of}
 use Rattle.state.specs.Values.{in_shape}

@@ -2,19 +2,14 @@
 -- Assumes nothing.
 -- what the step of a turn says
 use mathlib.Core.Path.{◌≡◌, refl, ◌∙◌}
-use mathlib.Core.Bool.{true}
 use native.Mathlib.Omega.{arith}
-use lib.ListN.{length}
 use Rattle.chain.specs.declared.Kind.{Kind}
 use Rattle.chain.specs.declared.Kind.TheVariants.{Stays, Reaches, Breaks}
 use Rattle.chain.specs.Steps.{read_at}
-use Rattle.chain.specs.Seek.{found}
 use Rattle.chain.specs.Back.{wide, walk_back}
 use Rattle.chain.proofs.Places.{SaysBack, says_back}
 use Rattle.chain.proofs.Edges.{ends_not, ends_through}
-use Rattle.transact.specs.Truncate.{others, held_all}
 use Rattle.transact.proofs.Steps.{held_stays, held_reaches}
-use borrow.Author.Rules.{rules}
 use Rattle.transact.proofs.walk.hold_back.Goals as goal
 use Rattle.transact.proofs.walk.hold_back.Goals.{After-back-next}
 

@@ -1,7 +1,6 @@
 -- `transact::walk::hold_other` meets its contract: the test says whether it is another page.
 -- Assumes nothing.
 use borrow.Author.Tests.{eq-eqb, ne_eqb}
-use borrow.Author.Rules.{rules}
 use Rattle.transact.proofs.walk.hold_other.Goals as goal
 
 pub returns-then-id-last : goal.returns-then-id-last

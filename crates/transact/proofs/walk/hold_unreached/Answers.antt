@@ -1,7 +1,6 @@
 -- `transact::walk::hold_unreached` meets its contract: all pages of the walk, or those after the page where the walk to the new first_seq ends.
 -- Assumes nothing.
 use mathlib.Core.Path.{◌∙◌, ap}
-use borrow.Author.Rules.{rules}
 use Rattle.chain.specs.Back.{place_of}
 use Rattle.transact.proofs.Steps.{follows_ends, edge_ends, held_whole, held_rest}
 use Rattle.transact.proofs.walk.hold_unreached.Goals as goal

@@ -1,6 +1,5 @@
 -- `writer::ask::curr_seq` meets its contract.
 -- Assumes nothing.
-use borrow.Author.Rules.{rules}
 use Rattle.writer.proofs.ask.curr_seq.Goals as goal
 
 pub returns-then-w : goal.returns-then-w

@@ -1,6 +1,5 @@
 -- `writer::ask::offset` meets its contract.
 -- Assumes nothing.
-use borrow.Author.Rules.{rules}
 use Rattle.writer.proofs.ask.offset.Goals as goal
 
 pub returns-then-w : goal.returns-then-w

@@ -4,7 +4,6 @@ use mathlib.Core.Path.{ap}
 use mathlib.Core.List.{[], ◌∷◌}
 use Prim.Native.Nat.{ℕ}
 use Rattle.writer.specs.Staging.{space}
-use borrow.Author.Rules.{rules}
 use Rattle.writer.proofs.ask.space_left_on_current_page.Goals as goal
 
 pub returns-then-w : goal.returns-then-w

@@ -1,7 +1,6 @@
 -- `writer::finish::closed` meets its contract.
 -- Assumes nothing.
 use mathlib.Core.Path.{◌∙◌}
-use borrow.Author.Rules.{rules}
 use Rattle.writer.proofs.finish.closed.Goals as goal
 
 pub returns : goal.returns

@@ -8,7 +8,6 @@ use Rattle.state.specs.Refusals.{numbers}
 use Rattle.state.specs.World.{before, ended, after, in_numbers}
 use Rattle.writer.specs.Finish.{discard}
 use Rattle.writer.proofs.Exits.{checked_refused, discard_idle, discard_broken, discard_done}
-use borrow.Author.Rules.{rules}
 use Rattle.writer.proofs.finish.discard.Goals as goal
 
 pub returns-in_default : goal.returns-in_default

@@ -10,7 +10,6 @@ use Rattle.state.specs.World.{before, ended, after, in_numbers}
 use Rattle.state.proofs.Laws.{checks_pass, writer_says}
 use Rattle.writer.specs.Finish.{finish}
 use Rattle.writer.proofs.Exits.{checked_refused, finish_idle, finish_shut, finish_staged}
-use borrow.Author.Rules.{rules}
 use Rattle.writer.proofs.finish.finish.Goals as goal
 
 pub returns-in_default : goal.returns-in_default

@@ -5,7 +5,6 @@ use Rattle.state.specs.declared.types.State.{State}
 use Rattle.state.specs.Values.{no_writer, with_writer}
 use Rattle.state.specs.World.{before}
 use Rattle.writer.proofs.Exits.{finished_is}
-use borrow.Author.Rules.{rules}
 use Rattle.writer.proofs.finish.finish_page.Goals as goal
 
 pub grow-t-requires : goal.grow-t-requires

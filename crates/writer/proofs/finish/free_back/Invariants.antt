@@ -1,16 +1,14 @@
 -- `writer::finish::free_back` meets its contract: the page at hand is freed already, and what freeing the others gives is what freeing all gives.
 -- Assumes nothing.
-use mathlib.Core.Path.{◌≡◌, refl, sym, ap, ◌∙◌}
+use mathlib.Core.Path.{◌≡◌}
 use Prim.Native.Nat.{◌≤◌}
-use native.Mathlib.Omega.{arith}
 use mathlib.Core.Bool.{true}
 use lib.ListN.{length}
 use Rattle.chain.specs.Steps.{read_at}
 use Rattle.chain.specs.Back.{wide}
 use Rattle.writer.specs.Finish.{back_from}
 use Rattle.writer.specs.Inner.{unbroken}
-use Rattle.writer.proofs.Backs.{back_wide, unbroken_reaches, unbroken_step, freed_after, freed_first, freed_next, freed_last, freed_none}
-use borrow.Author.Rules.{rules}
+use Rattle.writer.proofs.Backs.{freed_after}
 use Rattle.writer.proofs.finish.free_back.Given as goal
 
 abbrev pub invariant-loop-left : goal.invariant-loop-left

@@ -2,7 +2,6 @@
 -- Assumes nothing.
 use Rattle.state.specs.Values.{with_file}
 use Rattle.writer.specs.Finish.{grown}
-use borrow.Author.Rules.{rules}
 use Rattle.writer.proofs.finish.grow.Goals as goal
 
 pub returns : goal.returns

@@ -9,7 +9,6 @@ use Rattle.writer.specs.Finish.{back_from}
 use Rattle.writer.specs.Inner.{unbroken}
 use Rattle.chain.proofs.Places.{backs_to}
 use Rattle.writer.proofs.Backs.{back_wide, back_stays, back_breaks, back_few, unbroken_step}
-use borrow.Author.Rules.{rules}
 use Rattle.writer.proofs.finish.is_unbroken.Goals as goal
 use Rattle.writer.proofs.finish.is_unbroken.Goals.{At-loop-left}
 

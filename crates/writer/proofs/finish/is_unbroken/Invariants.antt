@@ -1,15 +1,11 @@
 -- `writer::finish::is_unbroken` meets its contract: what the rest of the walk says is what the whole says.
 -- Assumes nothing.
 -- what is said from the first page's place is said from the page
-use mathlib.Core.Path.{◌≡◌, refl, sym, ap, ◌∙◌}
-use Rattle.chain.specs.declared.Kind.TheVariants.{Stays, Reaches, Breaks}
+use mathlib.Core.Path.{◌≡◌}
 use Rattle.chain.specs.Steps.{read_at}
 use Rattle.chain.specs.Back.{wide}
 use Rattle.writer.specs.Finish.{back_from}
 use Rattle.writer.specs.Inner.{unbroken}
-use Rattle.chain.proofs.Places.{backs_to}
-use Rattle.writer.proofs.Backs.{back_wide, back_stays, back_breaks, back_few, unbroken_step}
-use borrow.Author.Rules.{rules}
 use Rattle.writer.proofs.finish.is_unbroken.Given as goal
 
 abbrev pub invariant-loop-left : goal.invariant-loop-left

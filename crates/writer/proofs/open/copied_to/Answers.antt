@@ -7,7 +7,6 @@ use Rattle.state.specs.World.{before, ended}
 use Rattle.state.specs.Values.{with_cursor, with_writer}
 use Rattle.writer.proofs.Pages.{alloc_told, alloc_small, beyond_small}
 use Rattle.writer.proofs.Opens.{copied_page, copied_none}
-use borrow.Author.Rules.{rules}
 use Rattle.writer.proofs.open.copied_to.Goals as goal
 
 pub overflow_cast-p : goal.overflow_cast-p

@@ -3,7 +3,6 @@
 use mathlib.Core.Path.{◌∙◌}
 use Rattle.writer.specs.Open.{copy_writer}
 use Rattle.writer.proofs.Small.{payload_part}
-use borrow.Author.Rules.{rules}
 use Rattle.writer.proofs.open.copy_writer.Goals as goal
 
 pub returns : goal.returns

@@ -1,6 +1,5 @@
 -- `writer::open::no_page` meets its contract.
 -- Assumes nothing.
-use borrow.Author.Rules.{rules}
 use Rattle.writer.proofs.open.no_page.Goals as goal
 
 pub returns : goal.returns

@@ -8,7 +8,6 @@ use Rattle.state.proofs.Laws.{checks_pass}
 use Rattle.writer.specs.Open.{open_writer}
 use Rattle.writer.proofs.Exits.{checked_refused, checked_passed}
 use Rattle.writer.proofs.Opens.{passed_sized}
-use borrow.Author.Rules.{rules}
 use Rattle.writer.proofs.open.open.Goals as goal
 
 pub returns-in_default : goal.returns-in_default

@@ -4,7 +4,6 @@ use mathlib.Core.Path.{sym, ap, ◌∙◌}
 use Rattle.state.specs.declared.types.Out.{Out}
 use Rattle.state.specs.World.{before, ended, after}
 use Rattle.writer.proofs.Opens.{in_limit, in_empty, in_last}
-use borrow.Author.Rules.{rules}
 use Rattle.writer.proofs.open.open_in.Goals as goal
 
 pub returns-then-f-gt-LIMIT : goal.returns-then-f-gt-LIMIT

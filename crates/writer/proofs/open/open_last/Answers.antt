@@ -3,7 +3,6 @@
 use mathlib.Core.Path.{sym, ap, ◌∙◌}
 use Rattle.state.specs.declared.types.Out.{Out}
 use Rattle.state.specs.World.{before, ended, after}
-use borrow.Author.Tests.{not-true, not-false}
 use Rattle.chain.specs.declared.PagePointer.{PagePointer}
 use Rattle.chain.specs.declared.Kind.TheVariants.{Stays, Reaches, Breaks}
 use Rattle.map.specs.Map.{alloc_of}
@@ -12,7 +11,6 @@ use Rattle.chain.specs.Files.{last_of}
 use Rattle.writer.specs.Open.{copied_to}
 use Rattle.chain.proofs.Steps.{steps_to}
 use Rattle.writer.proofs.Opens.{step_told, shaped_stands, last_kept, last_bad, last_room, last_odd, last_copied}
-use borrow.Author.Rules.{rules}
 use Rattle.writer.proofs.open.open_last.Goals as goal
 
 pub returns-then-shaped : goal.returns-then-shaped

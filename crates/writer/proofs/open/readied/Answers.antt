@@ -1,6 +1,5 @@
 -- `writer::open::readied` meets its contract.
 -- Assumes nothing.
-use borrow.Author.Rules.{rules}
 use Rattle.writer.proofs.open.readied.Goals as goal
 
 pub returns : goal.returns

@@ -7,7 +7,6 @@ use mathlib.Core.List.{List}
 use lib.ListN.{take, length-take}
 use Rattle.page.specs.Store.{ran, data_stores}
 use Rattle.map.proofs.Turns.{take_min}
-use borrow.Author.Rules.{rules}
 use Rattle.writer.proofs.staging.flush_header.Goals as goal
 
 pub slice_bounds-store_data-end : goal.slice_bounds-store_data-end

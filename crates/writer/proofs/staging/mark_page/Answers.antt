@@ -1,7 +1,6 @@
 -- `writer::staging::mark_page` meets its contract.
 -- Assumes nothing.
 use borrow.Author.Tests.{eq-eqb, ne_eqb}
-use borrow.Author.Rules.{rules}
 use Rattle.writer.proofs.staging.mark_page.Goals as goal
 
 pub returns-then-id-ne65535 : goal.returns-then-id-ne65535

@@ -3,7 +3,6 @@
 use borrow.Author.Tests.{le-leb, lt-leb}
 use native.Mathlib.Omega.{arith}
 use Rattle.writer.specs.Staging.{pages_for}
-use borrow.Author.Rules.{rules}
 use Rattle.writer.proofs.staging.pages_for.Goals as goal
 
 pub returns-then-len-left : goal.returns-then-len-left

@@ -3,7 +3,6 @@
 use native.Mathlib.Omega.{arith}
 use mathlib.Core.Path.{sym}
 use Rattle.writer.proofs.Sounds.{space_none, space_some}
-use borrow.Author.Rules.{rules}
 use Rattle.writer.proofs.staging.space_left.Goals as goal
 
 pub returns-then-w-eq65535 : goal.returns-then-w-eq65535

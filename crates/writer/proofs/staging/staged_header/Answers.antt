@@ -1,7 +1,6 @@
 -- `writer::staging::staged_header` meets its contract.
 -- Assumes nothing.
 use Rattle.writer.specs.Staging.{staged_header}
-use borrow.Author.Rules.{rules}
 use Rattle.writer.proofs.staging.staged_header.Goals as goal
 
 pub returns : goal.returns

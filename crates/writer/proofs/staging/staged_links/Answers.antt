@@ -2,7 +2,6 @@
 -- Assumes nothing.
 use borrow.Author.Tests.{eq-eqb, ne_eqb}
 use Rattle.writer.specs.Staging.{staged_links}
-use borrow.Author.Rules.{rules}
 use Rattle.writer.proofs.staging.staged_links.Goals as goal
 
 pub returns-then-w-eq65535 : goal.returns-then-w-eq65535

@@ -3,7 +3,6 @@
 use borrow.Author.Tests.{eq-eqb, ne_eqb}
 use Rattle.writer.specs.Staging.{too_few}
 use Rattle.writer.proofs.Small.{leb_next}
-use borrow.Author.Rules.{rules}
 use Rattle.writer.proofs.staging.too_few.Goals as goal
 
 pub returns-then-k-eq0 : goal.returns-then-k-eq0

@@ -5,7 +5,6 @@ use mathlib.Core.Path.{refl, ap, ◌∙◌}
 use Rattle.page.specs.Store.{Store, ran}
 use mathlib.Core.List.{List}
 use Rattle.writer.proofs.Pages.{flush_by}
-use borrow.Author.Rules.{rules}
 use Rattle.writer.proofs.write.flush.Goals as goal
 
 pub returns-then-w-eq65535 : goal.returns-then-w-eq65535

@@ -4,7 +4,6 @@ use native.Mathlib.Omega.{arith}
 use borrow.Author.Tests.{lt-ltb, le-ltb}
 use Prim.Native.Nat.{◌+◌, ◌≤◌, ◌<◌}
 use Rattle.writer.specs.Inner.{may_write}
-use borrow.Author.Rules.{rules}
 use Rattle.writer.proofs.write.may_write.Goals as goal
 
 pub returns-then-not-w : goal.returns-then-not-w

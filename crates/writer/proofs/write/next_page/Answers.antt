@@ -2,7 +2,6 @@
 -- Assumes nothing.
 use native.Mathlib.Omega.{arith}
 use Rattle.writer.proofs.Pages.{alloc_small, beyond_small, next_page_lem, next_full}
-use borrow.Author.Rules.{rules}
 use Rattle.writer.proofs.write.next_page.Goals as goal
 
 pub flush-w-requires : goal.flush-w-requires

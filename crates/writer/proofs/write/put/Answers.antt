@@ -1,7 +1,6 @@
 -- `writer::write::put` meets its contract.
 -- Assumes nothing.
 use Rattle.writer.specs.Staging.{filled_by}
-use borrow.Author.Rules.{rules}
 use Rattle.writer.proofs.write.put.Goals as goal
 
 pub returns : goal.returns

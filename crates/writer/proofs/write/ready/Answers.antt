@@ -4,7 +4,6 @@ use mathlib.Core.Path.{sym, ap, ◌∙◌}
 use Rattle.writer.proofs.Sounds.{space_staged}
 use Rattle.writer.proofs.Pages.{ready_next, ready_here}
 use Rattle.writer.specs.Inner.{makes, begins}
-use borrow.Author.Rules.{rules}
 use Rattle.writer.proofs.write.ready.Goals as goal
 
 pub returns-then-space_left-eq0 : goal.returns-then-space_left-eq0

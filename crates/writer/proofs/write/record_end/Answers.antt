@@ -8,7 +8,6 @@ use Rattle.state.specs.Refusals.{numbers}
 use Rattle.state.specs.World.{before, ended, after, in_numbers}
 use Rattle.writer.specs.Write.{record_end}
 use Rattle.writer.proofs.Exits.{checked_refused, end_idle, end_done}
-use borrow.Author.Rules.{rules}
 use Rattle.writer.proofs.write.record_end.Goals as goal
 
 pub returns-in_default : goal.returns-in_default

@@ -1,7 +1,6 @@
 -- `writer::write::stored` meets its contract.
 -- Assumes nothing.
 use Rattle.writer.specs.Staging.{flushed}
-use borrow.Author.Rules.{rules}
 use Rattle.writer.proofs.write.stored.Goals as goal
 
 pub returns : goal.returns

@@ -10,7 +10,6 @@ use Rattle.state.proofs.Laws.{checks_pass}
 use Rattle.writer.specs.Write.{write}
 use Rattle.writer.specs.Inner.{Wrote}
 use Rattle.writer.proofs.Exits.{checked_refused, may_sound, write_empty, write_refused, write_done}
-use borrow.Author.Rules.{rules}
 use Rattle.writer.proofs.write.write.Goals as goal
 
 pub returns-in_default : goal.returns-in_default

@@ -6,10 +6,8 @@ use native.Mathlib.Omega.{arith}
 use Rattle.writer.specs.Staging.{space}
 use lib.ListN.{length, length-take, length-drop}
 use Rattle.runs.proofs.Laws.{rest_drop}
-use Rattle.writer.specs.Write.{write_from}
-use Rattle.writer.specs.Inner.{makes, begins, Sound}
+use Rattle.writer.specs.Inner.{makes, begins}
 use Rattle.writer.proofs.Turns.{turn_room, turn_fits, turn_after, turn_made, write_none}
-use borrow.Author.Rules.{rules}
 use Rattle.writer.proofs.write.write_all.Goals as goal
 
 pub loop-rest-init : goal.loop-rest-init

@@ -1,15 +1,9 @@
 -- `writer::write::write_all` meets its contract: what the rest of the write makes is what the whole makes.
 -- Assumes nothing.
-use mathlib.Core.Path.{◌≡◌, refl, sym, ap, ◌∙◌}
-use Prim.Native.Nat.{min}
-use native.Mathlib.Omega.{arith}
-use Rattle.writer.specs.Staging.{space}
-use lib.ListN.{length, length-take, length-drop}
-use Rattle.runs.proofs.Laws.{rest_drop}
+use mathlib.Core.Path.{◌≡◌}
+use lib.ListN.{length}
 use Rattle.writer.specs.Write.{write_from}
 use Rattle.writer.specs.Inner.{makes, begins, Sound}
-use Rattle.writer.proofs.Turns.{turn_room, turn_fits, turn_after, turn_made, write_none}
-use borrow.Author.Rules.{rules}
 use Rattle.writer.proofs.write.write_all.Given as goal
 
 abbrev pub invariant-loop-rest : goal.invariant-loop-rest

@@ -7,7 +7,6 @@ use lib.ListN.{length}
 use Rattle.state.specs.Values.{with_cursor, with_writer}
 use Rattle.writer.specs.Write.{write_from}
 use Rattle.writer.specs.Inner.{Made, begins, wrote, writes}
-use borrow.Author.Rules.{rules}
 use Rattle.writer.proofs.write.write_in.Goals as goal
 
 pub returns : goal.returns
