@@ -26,10 +26,9 @@ use Rattle.agree.proofs.Keeps.{cond_by}
 use Rattle.agree.proofs.Pages.{clash}
 use Rattle.agree.proofs.Records.{link_none, link_some, file_by}
 use Rattle.owners.specs.State.{link_of, val_l, val_in, val_of}
-use Rattle.owners.specs.Store.{Link, file}
+use Rattle.owners.specs.Store.{Link}
 use Rattle.owners.proofs.Finding.{case}
 use Rattle.state.specs.Values.{empty_record, is_empty}
-use Rattle.chain.specs.Links.{ids}
 
 -- ---- entries of a batch
 

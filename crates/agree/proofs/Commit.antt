@@ -48,20 +48,15 @@ use Rattle.agree.proofs.Records.{file_gone, file_by, file_ranges, now_is, inv_is
 use Rattle.agree.proofs.Ruling.{chain_frame}
 use Rattle.agree.proofs.Staged.{last_own}
 use Rattle.owners.specs.Moves.{Change, give, release, release_all, moved_to, new_base}
-use Rattle.owners.specs.State.{none, val_in, val_of, Base, Now}
-use Rattle.owners.specs.Store.{met, Store, pick, limit, Owner, free, meta, writer, file}
-use Rattle.owners.proofs.Commit.{idle, committed, commit_none, commit_append, commit_move, inv_settled}
+use Rattle.owners.specs.State.{val_in, val_of, Base, Now}
+use Rattle.owners.specs.Store.{met, pick, Owner, free, meta, file}
+use Rattle.owners.proofs.Commit.{commit_none, commit_append, commit_move, inv_settled}
 use Rattle.page.specs.Page.{page_of, header_of, Fits}
 use Rattle.page.specs.Store.{ran}
 use Rattle.page.proofs.Headers.{meta_fits}
 use Rattle.page.proofs.Laws.{Every, ran_length, On, others, bytes_page, bytes_ran}
 use Rattle.metalog.specs.Log.{replay_of}
-use Rattle.metalog.proofs.Pages.{fits_new}
 use Rattle.state.specs.Values.{is_empty, closed, with_cursor, with_meta}
-use Rattle.chain.specs.Links.{ids}
-use Rattle.chain.proofs.Chains.{appended}
-use Rattle.chain.proofs.Written.{image}
-use Rattle.seq.specs.Seq.{below}
 
 -- what a commit leaves: known, and, where it succeeds, the files' pages are those of before
 pub record Commits (D : Type 0) (N : ℕ) (w : World) (o : Outcome Done) : Type 0 where

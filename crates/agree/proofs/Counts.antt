@@ -4,11 +4,10 @@ use Rattle.seq.specs.Seq as SeqSpecs
 use Rattle.state.specs.World.{World}
 use Rattle.state.specs.declared.types.Writer as StateWriter
 use Rattle.owners.specs.State as st
-use Rattle.owners.proofs.Writing.{inside}
 use Prim.Native.Nat.{ℕ, ◌+◌, ◌*◌, ◌≤◌, ◌<◌}
 use mathlib.Core.Path.{◌≡◌, refl, sym, ap, ◌∙◌}
 use mathlib.Core.Bool.{Bool, true, false, ◌||◌, not}
-use mathlib.Core.List.{List, map}
+use mathlib.Core.List.{List}
 use native.Mathlib.Omega.{arith}
 use native.Mathlib.Decide.{ℕ_discrete}
 use lib.ListN.{length}
@@ -21,12 +20,8 @@ use Rattle.agree.proofs.Finish.{copied_in}
 use Rattle.agree.proofs.Records.{link_some, file_by, file_ranges}
 use Rattle.agree.proofs.Staged.{back_inside, page_below, staged_ok, ready_ok}
 use Rattle.owners.specs.State.{Base, Writer, Run}
-use Rattle.owners.specs.Store.{Link, Store, limit, Owner, writer, file}
-use Rattle.page.specs.Store.{stored}
-use Rattle.metalog.specs.Log.{fits}
+use Rattle.owners.specs.Store.{Link, Store, Owner}
 use Rattle.state.specs.Checks.{sizes, id_ok, writer_ok, is_mounted, wrong_size, checks}
-use Rattle.chain.proofs.Chains.{copied}
-use Rattle.chain.proofs.Written.{image}
 use Rattle.seq.specs.Seq.{below}
 
 id_none : (count id : ℕ) → id ≡ none → id_ok count id ≡ true

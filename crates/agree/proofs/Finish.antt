@@ -14,7 +14,7 @@ use Rattle.owners.specs.State.{on, done}
 use Prim.Native.Nat.{ℕ, suc, ◌+◌, ◌≤◌, ◌<◌}
 use mathlib.Core.Path.{◌≡◌, refl, sym, ap, ap₂, subst, ◌∙◌}
 use mathlib.Core.Bool.{true, false}
-use mathlib.Core.List.{List, [], ◌∷◌, ◌++◌, map}
+use mathlib.Core.List.{List, [], ◌∷◌, ◌++◌}
 use native.Mathlib.Omega.{arith}
 use native.Mathlib.Decide.{ℕ_discrete}
 use lib.ListN.{length, get_or, set}
@@ -43,17 +43,12 @@ use Rattle.owners.proofs.Frames.{loose_writer}
 use Rattle.owners.proofs.Walks.{mem_left, mem_right}
 use Rattle.owners.proofs.Writing.{inv_finish, inv_finish_none, inv_discard}
 use Rattle.page.specs.Page.{Read, readable}
-use Rattle.page.specs.Store.{stored, ran}
+use Rattle.page.specs.Store.{ran}
 use Rattle.page.proofs.Laws.{ran_length}
 use Rattle.state.specs.Values.{file_at, with_file, no_writer, opened, with_writer}
-use Rattle.state.specs.World.{before}
 use Rattle.chain.specs.Steps.{read_at, towards, falls, back_rule, Stepped}
-use Rattle.chain.proofs.Chains.{copied}
 use Rattle.chain.proofs.Rules.{page_via, back_meets, back_on}
 use Rattle.chain.proofs.Traces.{goes_step}
-use Rattle.chain.proofs.Written.{written, image}
-use Rattle.map.specs.Map.{steps}
-use Rattle.seq.specs.Seq.{below}
 
 -- a record's numbers are its file's, an empty one's too
 pub numbers : (img : List ℕ) (r : FileRecord) → RecordOk img r → (first_of (as_file r) ≡ r.first_seq) × (flags_of (as_file r) ≡ r.flags) × (end_of (as_file r) ≡ r.last_seq) × (last_of (as_file r) ≡ link_of r.last_page)

@@ -15,7 +15,7 @@ use Rattle.owners.specs.Store as StStore
 use Prim.Native.Nat.{ℕ, zero, suc, ◌*◌, ◌/◌, ◌%◌, ◌≤◌, ◌<◌}
 use mathlib.Core.Path.{◌≡◌, refl, sym, ap, subst, ◌∙◌}
 use mathlib.Core.Bool.{true, false}
-use mathlib.Core.List.{List, [], ◌∷◌, ◌++◌, map}
+use mathlib.Core.List.{List, [], ◌∷◌, ◌++◌}
 use native.Mathlib.Omega.{arith}
 use native.Mathlib.Decide.{ℕ_discrete, dec_lt}
 use lib.ListN.{length, drop, get_or, replicate, get_or-eq_default, get_or-replicate}
@@ -47,7 +47,6 @@ use Rattle.page.proofs.Back.{bytes_meta, erased_meta, meta_page_lem, meta_stored
 use Rattle.page.proofs.Laws.{stored_length, other_page, erased_page, Every, every_map, ran_append, ran_length, Off, untouched, On, others, bytes_replicate, OfBytes, bytes_ran}
 use Rattle.metalog.specs.Log.{replay_of}
 use Rattle.state.specs.Values.{empty_record, empty_table, no_writer}
-use Rattle.chain.proofs.Written.{image}
 
 module _ (img : List ℕ) (p : ℕ) where
   -- ---- the erasures

@@ -2,7 +2,6 @@
 use Rattle.seq.specs.Ids as ids
 use Rattle.seq.specs.Seq as SeqSpecs
 use Rattle.chain.specs.Files as files
-use Rattle.chain.specs.Steps.{at}
 use Rattle.map.specs.Map.{used, cleared}
 use Rattle.volume.specs.declared.Best.{Best}
 use Rattle.volume.specs.Scan.{scan}
@@ -15,7 +14,7 @@ use Rattle.metalog.specs.declared.Files.{Files}
 use Prim.Native.Nat.{ℕ, zero, suc, ◌+◌, ◌≤◌, ◌<◌}
 use mathlib.Core.Path.{◌≡◌, refl, sym, ap, ap₂, subst, ◌∙◌}
 use mathlib.Core.Bool.{Bool, false, cond}
-use mathlib.Core.List.{List, [], ◌∷◌, map}
+use mathlib.Core.List.{List, [], ◌∷◌}
 use native.Mathlib.Omega.{arith}
 use native.Mathlib.Nat.{zero-add, add-zero}
 use lib.ListN.{length, get_or, set}
@@ -38,7 +37,6 @@ use Rattle.owners.proofs.Walks.{walk_below}
 use Rattle.page.specs.Page.{Bytes}
 use Rattle.metalog.specs.Log.{replay_of}
 use Rattle.state.specs.Values.{empty_record}
-use Rattle.chain.specs.Links.{ids}
 use Rattle.chain.specs.Steps.{read_at, Sought, walk, visited}
 use Rattle.chain.proofs.Walks.{walk_distinct}
 use Rattle.seq.specs.Seq.{below}

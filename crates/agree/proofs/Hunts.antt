@@ -13,20 +13,17 @@ use mathlib.Core.Path.{◌≡◌, refl, subst}
 use mathlib.Core.Bool.{Bool, true, false, cond, ◌&&◌, ◌||◌, not}
 use mathlib.Core.List.{List}
 use native.Mathlib.Omega.{arith}
-use lib.ListN.{length, get_or}
+use lib.ListN.{get_or}
 use lib.Dec.{leb, ltb, eqb}
 use borrow.Author.Tests.{le-leb, ltb-true, leb-false}
 use Rattle.page.specs.declared.DataHeader.{DataHeader}
 use Rattle.agree.specs.Good.{SearchIs}
 use Rattle.agree.proofs.Pages.{clash}
-use Rattle.owners.specs.Store.{file}
 use Rattle.page.specs.Page.{Read, unreadable, readable}
 use Rattle.state.specs.Checks.{search_ok}
 use Rattle.state.specs.Values.{no_search}
-use Rattle.state.specs.World.{after_call}
 use Rattle.chain.specs.Steps.{is_page}
 use Rattle.chain.proofs.Seeks.{right}
-use Rattle.map.specs.Map.{steps}
 use Rattle.seq.specs.Seq.{level}
 
 test_by : {A : Type 0} (P : A → Type 0) (t : Bool) (a b : A) → (t ≡ true → P a) → (t ≡ false → P b) → P (cond t a b)

@@ -13,7 +13,7 @@ use Rattle.state.specs.declared.types.Search.{Search}
 use Prim.Native.Nat.{ℕ}
 use mathlib.Core.Path.{◌≡◌, refl}
 use mathlib.Core.Bool.{Bool, true, false, cond}
-use mathlib.Core.List.{List, map}
+use mathlib.Core.List.{List}
 use lib.ListN.{length}
 use lib.Dec.{ltb}
 use Rattle.state.specs.declared.types.Refusal.{Refusal}
@@ -21,7 +21,6 @@ use Rattle.state.specs.declared.types.Done.TheVariants.{Done as Fine, Refused}
 use Rattle.agree.proofs.Pages.{clash}
 use Rattle.state.specs.Checks.{is_mounted, wrong_size, checks}
 use Rattle.state.specs.Refusals.{on_done}
-use Rattle.chain.proofs.Written.{image}
 
 abbrev pub Stays : {A : Type 0} → World → Outcome A → Type 0
 Stays w o = (ended w o).world ≡ w

@@ -18,7 +18,7 @@ use Rattle.state.specs.declared.types.Search.{Search}
 use Prim.Native.Nat.{ℕ, ◌≤◌, ◌<◌}
 use mathlib.Core.Path.{◌≡◌, refl, sym, ap, subst, ◌∙◌}
 use mathlib.Core.Bool.{Bool, true, false, cond, ◌&&◌}
-use mathlib.Core.List.{List, [], map}
+use mathlib.Core.List.{List, []}
 use native.Mathlib.Omega.{arith}
 use native.Mathlib.Decide.{ℕ_discrete}
 use lib.ListN.{length}
@@ -39,19 +39,13 @@ use Rattle.agree.proofs.Records.{file_live, file_by, file_at_lem, with_at, with_
 use Rattle.agree.proofs.Ruling.{reaches_copy, record_chain, chain_record}
 use Rattle.owners.specs.Moves.{swap, swap_o, set_f, set_d, set_flags}
 use Rattle.owners.specs.State.{link_of, Base, Writer, shut, ready, staging, WriterOk, Inv}
-use Rattle.owners.specs.Store.{pick, File, limit, Owner, free, held, meta, writer, outside, file}
-use Rattle.owners.proofs.Commit.{idle}
+use Rattle.owners.specs.Store.{pick, File, Owner, free, held, meta, writer, outside, file}
 use Rattle.owners.proofs.Tables.{pick_yes, pick_no, inv_flags, inv_touch, inv_rename}
-use Rattle.page.specs.Store.{stored}
 use Rattle.state.specs.Checks.{checks}
 use Rattle.state.specs.Refusals.{on_done}
 use Rattle.state.specs.Values.{file_at, with_file, is_empty, in_shape, flagged, with_flags, no_search, opened, with_writer, with_search}
-use Rattle.state.specs.World.{after_call}
 use Rattle.state.proofs.Laws.{OpenSearch, search_says, Passed, checks_pass}
-use Rattle.chain.specs.Steps.{read_at, Sought}
-use Rattle.chain.proofs.Chains.{copied}
-use Rattle.chain.proofs.Seeks.{right}
-use Rattle.chain.proofs.Written.{image}
+use Rattle.chain.specs.Steps.{read_at}
 
 abbrev pub Keeps : {A : Type 0} → Type 0 → ℕ → World → Outcome A → Type 0
 Keeps D N w o = Known D N (ended w o).world

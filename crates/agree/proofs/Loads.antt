@@ -8,7 +8,6 @@ use Rattle.volume.specs.declared.Best.{Best}
 use Rattle.volume.specs.Scan.{best_of, better, scan}
 use Rattle.volume.specs.Mount.{bad, good, claim}
 use Rattle.chain.specs.Walk.{Each, Distinct}
-use Rattle.owners.specs.Store as Mem
 use Prim.Native.Nat.{ℕ, zero, suc, ◌≤◌, ◌<◌}
 use mathlib.Core.Path.{◌≡◌, refl, sym, ap, subst, ◌∙◌}
 use mathlib.Core.Bool.{Bool, true, false, cond}
@@ -31,14 +30,12 @@ use Rattle.agree.proofs.Keeps.{cond_by}
 use Rattle.agree.proofs.Maps.{code_free, mapped_give, mapped_to}
 use Rattle.agree.proofs.Pages.{clash, meta_view, view_meta}
 use Rattle.owners.specs.Moves.{give, mem_nil, mem_tail, mem?, assign}
-use Rattle.owners.specs.State.{none}
-use Rattle.owners.specs.Store.{met, pick, Owner, free, file, Mem, there}
+use Rattle.owners.specs.Store.{met, pick, Owner, free, file, Mem}
 use Rattle.owners.proofs.Finding.{AllFree}
 use Rattle.owners.proofs.Owned.{give_at, give_off}
 use Rattle.owners.proofs.Tables.{pick_no}
 use Rattle.page.specs.Page.{page_of, meta_of}
 use Rattle.metalog.specs.Log.{replay_of}
-use Rattle.chain.specs.Links.{ids}
 
 -- ---- the scan
 

@@ -13,12 +13,11 @@ use Rattle.volume.specs.declared.Best.{Best}
 use Rattle.volume.specs.Scan.{scan}
 use Rattle.volume.specs.Mount.{Maybe, bad, good, bind, Loaded, LoadedAll, claimed, record_of, loaded_by, load, load_from, best_ok, mount_from}
 use Rattle.owners.specs.Store as st
-use Rattle.owners.specs.State as state
 use Prim.Native.Nat.{ℕ, zero, suc, ◌+◌, ◌*◌, ◌%◌, ◌≤◌, ◌<◌}
 use mathlib.Core.Path.{◌≡◌, refl, sym, ap, subst, ◌∙◌}
 use mathlib.Core.Bool.{Bool, true, false, cond, ◌&&◌}
 use mathlib.Core.Logic.{◌⊎◌}
-use mathlib.Core.List.{List, [], ◌∷◌, map}
+use mathlib.Core.List.{List, [], ◌∷◌}
 use native.Mathlib.Omega.{arith}
 use native.Mathlib.Nat.{zero-add, add-zero}
 use native.Mathlib.Decide.{ℕ_discrete, dec_lt}
@@ -39,7 +38,7 @@ use Rattle.agree.proofs.Pages.{clash, data_view}
 use Rattle.agree.proofs.Records.{link_none, link_some, file_live, empty_gone, empty_ok, now_is, inv_is}
 use Rattle.agree.proofs.Walking.{walk_sound}
 use Rattle.owners.specs.Moves.{set_f}
-use Rattle.owners.specs.State.{link_of, Val, none, val_l, val_in, Base, Mounted, last_of}
+use Rattle.owners.specs.State.{link_of, Val, val_l, val_in, Base, Mounted}
 use Rattle.owners.specs.Store.{Link, File, gone, live, limit, file, Mem, here, FileOk}
 use Rattle.owners.proofs.Finding.{Part, taken, Upto, upto_none, upto_live, start_part, base_of, start_upto, upto_mounted, case}
 use Rattle.owners.proofs.Tables.{pick_yes, pick_no, inv_mount}
@@ -49,9 +48,7 @@ use Rattle.page.proofs.Headers.{header_bounds}
 use Rattle.metalog.specs.Log.{replay_of}
 use Rattle.state.specs.Values.{empty_record, no_writer}
 use Rattle.state.specs.World.{before}
-use Rattle.chain.specs.Links.{ids}
 use Rattle.chain.specs.Steps.{read_at, Sought, walk, visited}
-use Rattle.chain.proofs.Written.{image}
 use Rattle.seq.specs.Seq.{below}
 
 -- ---- answers

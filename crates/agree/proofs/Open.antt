@@ -18,7 +18,7 @@ use Prim.Native.Nat.{ℕ, ◌+◌, ◌≤◌, ◌<◌}
 use mathlib.Core.Path.{◌≡◌, refl, sym, ap, ap₂, subst, ◌∙◌}
 use mathlib.Core.Bool.{Bool, true, false, cond}
 use mathlib.Core.Logic.{◌⊎◌, inl, inr}
-use mathlib.Core.List.{List, map}
+use mathlib.Core.List.{List}
 use native.Mathlib.Omega.{arith}
 use native.Mathlib.Decide.{dec_le}
 use lib.ListN.{length, drop, get_or, set, replicate, length-replicate}
@@ -39,13 +39,11 @@ use Rattle.agree.proofs.Pages.{data_view}
 use Rattle.agree.proofs.Records.{link_none, link_some, file_live, file_at_lem, now_is, inv_is}
 use Rattle.agree.proofs.Ruling.{record_chain, reaches_again, reaches_alone, stays_far}
 use Rattle.owners.specs.Moves.{give, with_own}
-use Rattle.owners.specs.State.{link_of, Base, Writer, ready, staging, first_of, last_of, next_step, Inv}
-use Rattle.owners.specs.Store.{Link, nil, to, pick, limit, Owner, writer, file}
-use Rattle.owners.proofs.Commit.{idle}
+use Rattle.owners.specs.State.{link_of, Base, ready, staging, first_of, last_of, next_step, Inv}
+use Rattle.owners.specs.Store.{Link, nil, to, pick, Owner, writer}
 use Rattle.owners.proofs.Tables.{pick_no}
 use Rattle.owners.proofs.Writing.{inv_open, inv_copy}
 use Rattle.page.specs.Page.{page_of, readable, Bytes}
-use Rattle.page.specs.Store.{stored}
 use Rattle.page.proofs.Headers.{header_written}
 use Rattle.page.proofs.Laws.{bytes_take, bytes_drop, bytes_replicate, bytes_splice, bytes_page}
 use Rattle.metalog.specs.Log.{sound}
@@ -53,8 +51,6 @@ use Rattle.state.specs.Values.{is_empty, in_shape, with_cursor, with_writer}
 use Rattle.chain.specs.Steps.{read_at, back_rule, Stepped}
 use Rattle.chain.proofs.Rules.{back_falling, back_halts, back_via}
 use Rattle.chain.proofs.Traces.{Began, began}
-use Rattle.chain.proofs.Written.{written, image}
-use Rattle.map.specs.Map.{steps}
 use Rattle.seq.specs.Seq.{below}
 
 -- ---- bytes placed

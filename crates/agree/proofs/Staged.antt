@@ -28,20 +28,18 @@ use Rattle.agree.proofs.Keeps.{writer_ready, writer_staged}
 use Rattle.agree.proofs.Pages.{clash, data_change}
 use Rattle.agree.proofs.Records.{link_some, file_live, last_mine}
 use Rattle.agree.proofs.Ruling.{cut, cut_pages, reaches_frame, chain_frame, reaches_next}
-use Rattle.owners.specs.Moves.{Change, mem_nil, fresh}
-use Rattle.owners.specs.State.{link_of, Owners, Base, Writer, first_of, Back, StagedOk, WriterOk}
+use Rattle.owners.specs.Moves.{Change, mem_nil}
+use Rattle.owners.specs.State.{link_of, Owners, Base, first_of, Back, StagedOk, WriterOk}
 use Rattle.owners.specs.Store.{Link, to, dat, Store, File, Owner, writer, file, Mem, Walk, FileAt}
 use Rattle.page.specs.Page.{page_of, readable, header_of, Bytes, Written}
-use Rattle.page.specs.Store.{stored, ran}
+use Rattle.page.specs.Store.{ran}
 use Rattle.page.proofs.Back.{data_header, data_bytes, data_others}
 use Rattle.page.proofs.Headers.{header_written}
 use Rattle.page.proofs.Laws.{bytes_take, bytes_page, bytes_ran}
-use Rattle.metalog.specs.Log.{fits}
 use Rattle.chain.specs.Links.{filled, linked, no_links, Chain, oldest, older, ids}
 use Rattle.chain.specs.Steps.{read_at}
-use Rattle.chain.proofs.Chains.{older_here, older_on, copied}
+use Rattle.chain.proofs.Chains.{older_here, older_on}
 use Rattle.chain.proofs.Links.{links_nine}
-use Rattle.chain.proofs.Written.{image}
 use Rattle.seq.specs.Seq.{index, level}
 
 -- ---- links of a new page

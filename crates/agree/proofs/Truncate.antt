@@ -8,7 +8,7 @@ use Rattle.state.specs.World.{World}
 use Prim.Native.Nat.{ℕ, ◌+◌, ◌≤◌, ◌<◌}
 use mathlib.Core.Path.{◌≡◌, refl, sym, ap, ap₂, subst, ◌∙◌}
 use mathlib.Core.Bool.{true, false, cond}
-use mathlib.Core.List.{List, [], ◌∷◌, ◌++◌, map}
+use mathlib.Core.List.{List, [], ◌∷◌, ◌++◌}
 use native.Mathlib.Omega.{arith}
 use native.Mathlib.Decide.{ℕ_discrete, dec_le}
 use lib.ListN.{length, drop, set}
@@ -27,14 +27,11 @@ use Rattle.agree.proofs.Walking.{walk_complete, file_walk}
 use Rattle.owners.specs.Moves.{hold_f, mem?, keep_only, set_first, cut_file, set_flags, Cut}
 use Rattle.owners.specs.State.{Base}
 use Rattle.owners.specs.Store.{Store, pick, File, gone, live, Owner, free, held, meta, writer, outside, file, Mem, here, there, FileOk, FileAt}
-use Rattle.owners.proofs.Commit.{idle}
 use Rattle.owners.proofs.Tables.{pick_yes, pick_no, cut_of, inv_truncate, truncate_holds, inv_flags}
 use Rattle.owners.proofs.Walks.{walk_head, mem_off}
 use Rattle.page.specs.Page.{readable}
 use Rattle.state.specs.Values.{with_file, is_empty, in_shape}
-use Rattle.state.specs.World.{kept}
-use Rattle.chain.specs.Steps.{read_at, reaches, Sought, walk, visited}
-use Rattle.chain.proofs.Written.{image}
+use Rattle.chain.specs.Steps.{read_at, Sought, walk, visited}
 
 -- ---- the pages held
 

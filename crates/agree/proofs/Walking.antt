@@ -10,7 +10,7 @@ use mathlib.Core.Logic.{◌⊎◌, inl, inr}
 use mathlib.Core.List.{List, [], ◌∷◌}
 use native.Mathlib.Omega.{arith}
 use native.Mathlib.Decide.{dec_le}
-use lib.ListN.{length, get_or}
+use lib.ListN.{get_or}
 use Rattle.page.specs.declared.DataHeader.{DataHeader}
 use Rattle.chain.specs.declared.PagePointer.{PagePointer}
 use Rattle.agree.specs.View.{view}
@@ -20,7 +20,7 @@ use Rattle.owners.specs.State.{link_of}
 use Rattle.owners.specs.Store.{Link, nil, to, dat, Store, File, live, Walk, FileOk}
 use Rattle.page.specs.Page.{page_of, readable}
 use Rattle.chain.specs.Links.{oldest, ids}
-use Rattle.chain.specs.Steps.{read_at, towards, falls, back_rule, Trace, walk, visited}
+use Rattle.chain.specs.Steps.{read_at, towards, back_rule, Trace, walk, visited}
 use Rattle.chain.proofs.Rules.{page_via, back_falling, back_meets, back_here, back_none, back_on, back_halts, back_via}
 use Rattle.chain.proofs.Traces.{trace_walked}
 use Rattle.chain.proofs.Walks.{WalkedTo, walk_is}

@@ -1,7 +1,6 @@
 -- Writing keeps the invariant: each turn stages a page, stores a full one and stages the next, or goes on with the staged one.
 -- Assumes nothing.
 use Rattle.seq.specs.Ids.{none}
-use Rattle.owners.proofs.Writing.{inside}
 use Rattle.state.specs.declared.types.Writer as StateWriter
 use Rattle.state.specs.World.{World}
 use Rattle.map.specs.declared.Alloc.TheVariants.{Page}
@@ -14,7 +13,7 @@ use native.Mathlib.Numerals.{add-one}
 use Prim.Native.Nat.{ℕ, ◌+◌, ◌≤◌, ◌<◌}
 use mathlib.Core.Path.{◌≡◌, refl, sym, ap, ap₂, subst, ◌∙◌}
 use mathlib.Core.Bool.{Bool, true, false, cond}
-use mathlib.Core.List.{List, map}
+use mathlib.Core.List.{List}
 use native.Mathlib.Omega.{arith}
 use native.Mathlib.Nat.{zero-add}
 use lib.ListN.{length, set}
@@ -33,19 +32,16 @@ use Rattle.agree.proofs.Records.{link_none, link_some, file_by, file_ranges, fil
 use Rattle.agree.proofs.Ruling.{reaches_copy, record_chain, reaches_next, reaches_alone}
 use Rattle.agree.proofs.Staged.{flush_bytes, flush_header, flush_change, flush_record, files_flushed, base_flushed, chain_next, last_own, staged_ok}
 use Rattle.owners.specs.Moves.{give}
-use Rattle.owners.specs.State.{link_of, Base, Writer, staging, last_of, end_of}
+use Rattle.owners.specs.State.{link_of, Base, staging, last_of, end_of}
 use Rattle.owners.specs.Store.{Link, to, limit, Owner, free, writer, file}
 use Rattle.owners.proofs.Frames.{loose_writer}
 use Rattle.owners.proofs.Writing.{inv_stage, inv_grow, inv_next}
 use Rattle.page.specs.Page.{page_of, readable, Bytes}
-use Rattle.page.specs.Store.{stored, ran}
+use Rattle.page.specs.Store.{ran}
 use Rattle.page.proofs.Headers.{header_written}
 use Rattle.page.proofs.Laws.{ran_length, bytes_page}
-use Rattle.metalog.specs.Log.{ended}
 use Rattle.state.specs.Values.{with_cursor, with_writer}
 use Rattle.chain.specs.Steps.{read_at}
-use Rattle.chain.proofs.Chains.{copied}
-use Rattle.chain.proofs.Written.{image}
 
 -- ---- the writers of a turn
 

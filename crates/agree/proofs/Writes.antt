@@ -15,7 +15,7 @@ use Rattle.writer.specs.Write as turns
 use Prim.Native.Nat.{ℕ, zero, suc, ◌+◌, ◌-◌, ◌/◌, ◌≤◌, ◌<◌, min}
 use mathlib.Core.Path.{◌≡◌, sym, ap, subst, ◌∙◌}
 use mathlib.Core.Bool.{Bool, true, false, ◌&&◌, not}
-use mathlib.Core.List.{List, [], ◌∷◌, ◌++◌, map}
+use mathlib.Core.List.{List, [], ◌∷◌, ◌++◌}
 use native.Mathlib.Omega.{arith}
 use native.Mathlib.Nat.{zero-add}
 use native.Mathlib.Decide.{ℕ_discrete, dec_le}
@@ -27,12 +27,11 @@ use Rattle.agree.proofs.Keeps.{Keeps, cond_by, checked_by}
 use Rattle.agree.proofs.Maps.{alloc_free}
 use Rattle.agree.proofs.Staged.{staged_ok}
 use Rattle.agree.proofs.Write.{grow_keeps, stage_keeps, next_keeps}
-use Rattle.owners.specs.State.{Base, Writer, ready}
-use Rattle.owners.specs.Store.{limit, Owner, writer}
+use Rattle.owners.specs.State.{Base}
+use Rattle.owners.specs.Store.{Owner}
 use Rattle.page.specs.Page.{Bytes}
 use Rattle.page.proofs.Laws.{ran_append, bytes_take, bytes_drop}
 use Rattle.state.specs.Values.{with_cursor, with_writer}
-use Rattle.chain.proofs.Written.{image}
 use Rattle.map.proofs.Laws.{Some}
 
 -- ---- room

@@ -17,10 +17,8 @@ returns-then-p-limit c = back_told_stays _ _ _ _ _ (is_none (goal.at.returns-the
 
 pub returns-then-next : goal.returns-then-next
 returns-then-next c =
-    let l = c in
     back_told_reaches _ _ _ _ _ (is_none (goal.at.returns-then-next c).After-is_none) c.if-p-limit.false _ c.lower_back-next.ensures c.if-next.true
 
 pub returns : goal.returns
 returns c =
-    let l = c in
     back_told_breaks _ _ _ _ _ (is_none (goal.at.returns c).After-is_none) c.if-p-limit.false _ c.lower_back-next.ensures c.if-next.false

@@ -20,24 +20,20 @@ some i =
 
 pub returns-in_default : goal.returns-in_default
 returns-in_default c =
-    let o = c in
     c.unread.ensures
     ∙ ap gives (sym (lower_none _ _ _ _ (shown _ c.into_option-named.ensures c.from_raw.ensures None c.in_default.is)))
 
 pub returns-then-count-at : goal.returns-then-count-at
 returns-then-count-at c =
-    let i = c in
     c.unread-then-count-at.ensures ∙ ap gives (sym (lower_outside _ _ _ _ (rw (some (goal.at.returns-then-count-at c).After-index-at).0 at c.if-count-at.true)))
 
 pub returns-then-header-start : goal.returns-then-header-start
 returns-then-header-start c =
-    let h = c in
     let s = some (goal.at.returns-then-header-start c).After-index-at in
     lower_falls _ _ _ _ s.1 (rw s.0 at c.if-count-at.false) c.header_at-read.result (rw s.0 at c.header_at-read.ensures) c.if-header-start.true
 
 pub returns : goal.returns
 returns c =
-    let h = c in
     let s = some (goal.at.returns c).After-index-at in
     c.unread-2.ensures
     ∙ ap gives (sym (lower_high _ _ _ _ s.1 (rw s.0 at c.if-count-at.false) c.header_at-read.result (rw s.0 at c.header_at-read.ensures) c.if-header-start.false))

@@ -19,11 +19,9 @@ returns-then-is_none-count c =
 
 pub returns-then-read-start : goal.returns-then-read-start
 returns-then-read-start c =
-    let r = c in
     lower_back_falls _ _ _ _ (passed _ _ _ (is_none (goal.at.returns-then-read-start c).After-is_none) c.if-is_none-count.false) _ c.back_at-read.ensures c.if-read-start.true
 
 pub returns : goal.returns
 returns c =
-    let r = c in
     c.unread_back-2.ensures
     ∙ ap gives_back (sym (lower_back_high _ _ _ _ (passed _ _ _ (is_none (goal.at.returns c).After-is_none) c.if-is_none-count.false) _ c.back_at-read.ensures c.if-read-start.false))

@@ -17,21 +17,18 @@ loop-i-init c = (omega arith, omega arith, refl)
 pub returns-then-top-i : goal.returns-then-top-i
 unfolding linked
 returns-then-top-i c =
-    let g = c in
     let a = c.args in
     let e : c.loop-i.i ≡ a.top + 1 = omega arith in
     c.loop-i.invariant.2 ∙ ap (λ (k : ℕ). filled k a.id a.links) e
 
 pub loop-i-preserved : goal.loop-i-preserved
 loop-i-preserved c =
-    let g = c in
     let a = c.args in
     (omega arith, omega arith, ap (λ (l : List ℕ). set l c.loop-i.i a.id) c.loop-i.invariant.2 ∙ filled_next c.loop-i.i a.id a.links)
 
 pub returns : goal.returns
 unfolding linked
 returns c =
-    let g = c in
     let a = c.args in
     let n : length a.links ≡ 9 = search rules in
     c.loop-i.invariant.2 ∙ filled_past c.loop-i.i (a.top + 1) a.id a.links (omega arith) (omega arith)

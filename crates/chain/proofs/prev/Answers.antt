@@ -30,8 +30,6 @@ returns-in-Breaks c = ap (told _) (sym (turn (goal.at.returns-in-Breaks c).After
 pub returns-in-Reaches : goal.returns-in-Reaches
 unfolding gives
 returns-in-Reaches c =
-    let m = c in
-    let g = c in
     let a = c.args in
     let read = read_at a.image.now in
     let w = turn (goal.at.returns-in-Reaches c).After-back-next Reaches c.in-Reaches.is in

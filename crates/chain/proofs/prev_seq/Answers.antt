@@ -15,14 +15,11 @@ use Rattle.chain.proofs.prev_seq.Goals as goal
 use Rattle.chain.proofs.prev_seq.Goals.{After-header-1}
 
 turn : (c : After-header-1)
-    → let f = c in
-    let l = c in
-    let a = c.args in
+    → let a = c.args in
     let q : PagePointer = record { page_id = c.link_toward-id.result; header = c.lower-next.result.header } in
     let r = seek_rule a.count a.seq in
     (trace r (read_at a.image.now) c.loop-here.here ≡ through q.page_id (trace r (read_at a.image.now) q)) × (start q < start c.loop-here.here)
 turn c =
-    let f = c in
     reaches_trace _ (seek_falling _ _) _ _ _
     (seek_reaches _ _ _ _ _ c.lower-next.result c.lower-next.ensures c.loop-here-test.true c.link_toward-id.ensures c.if-next.true)
 
@@ -31,7 +28,6 @@ loop-here-init c = (after_first _ _ _ _ (omega arith), omega arith)
 
 pub overflow_add-read : goal.overflow_add-read
 overflow_add-read c =
-    let l = c in
     omega (arith, (turn c).1, c.loop-here.invariant.1, c.well_formed.1.1.0)
 
 pub loop-here-smaller : goal.loop-here-smaller
@@ -39,18 +35,14 @@ loop-here-smaller c = (turn c).1
 
 pub loop-here-preserved : goal.loop-here-preserved
 loop-here-preserved c =
-    let l = c in
     (after_reaches _ _ _ _ _ _ (turn c).0 ∙ c.loop-here.invariant.0, omega (arith, (turn c).1, c.loop-here.invariant.1))
 
 pub returns-else-next : goal.returns-else-next
 returns-else-next c =
-    let f = c in
-    let l = c in
     after_breaks _ _ _ _ _ (breaks_trace _ (seek_falling _ _) _ _
     (seek_breaks _ _ _ _ _ c.lower-next.result c.lower-next.ensures c.loop-here-test.true c.link_toward-id.ensures c.if-next.false))
     ∙ c.loop-here.invariant.0
 
 pub returns : goal.returns
 returns c =
-    let l = c in
     after_stays _ _ _ _ _ (stays_trace _ (seek_falling _ _) _ _ (seek_stays _ _ _ _ c.loop-here-test.false)) ∙ c.loop-here.invariant.0

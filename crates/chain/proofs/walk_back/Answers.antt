@@ -18,13 +18,11 @@ turn g k e = says_back _ _ _ _ g.back-next.result k g.back-next.ensures e
 
 pub returns-in-Stays : goal.returns-in-Stays
 returns-in-Stays c =
-    let g = c in
     let a = c.args in
     ap (λ (t : Trace). reached_by a.p t.ends) (sym (turn (goal.at.returns-in-Stays c).After-back-next Stays c.in-Stays.is)) ∙ c.loop-here.invariant
 
 pub returns-in-Breaks : goal.returns-in-Breaks
 returns-in-Breaks c =
-    let g = c in
     let a = c.args in
     ap (reached_by a.p) (sym (turn (goal.at.returns-in-Breaks c).After-back-next Breaks c.in-Breaks.is)) ∙ c.loop-here.invariant
 
@@ -33,6 +31,5 @@ loop-here-smaller c = (turn (goal.at.loop-here-smaller c).After-back-next Reache
 
 pub loop-here-preserved : goal.loop-here-preserved
 loop-here-preserved c =
-    let g = c in
     let a = c.args in
     ap (λ (t : Trace). reached_by a.p t.ends) (sym (turn (goal.at.loop-here-preserved c).After-back-next Reaches c.in-Reaches.is).0) ∙ c.loop-here.invariant

@@ -1,7 +1,6 @@
 -- `export::mv_format` meets its contract: by what the call ensures.
 -- Assumes nothing.
 use Rattle.export.proofs.Told.{replied_is}
-use borrow.Author.Rules.{rules}
 use Rattle.export.proofs.mv_format.Goals as goal
 
 pub returns : goal.returns

@@ -5,7 +5,6 @@ use Rattle.state.specs.World.{before}
 use Rattle.reader.specs.Locate.{locate}
 use Rattle.reader.proofs.Numbers.{located_same}
 use Rattle.export.specs.Replies.{located_reply}
-use borrow.Author.Rules.{rules}
 use Rattle.export.proofs.mv_locate.Goals as goal
 
 pub returns : goal.returns

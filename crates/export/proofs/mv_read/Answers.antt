@@ -1,7 +1,6 @@
 -- `export::mv_read` meets its contract: by what the call ensures.
 -- Assumes nothing.
 use Rattle.export.proofs.Told.{read_is}
-use borrow.Author.Rules.{rules}
 use Rattle.export.proofs.mv_read.Goals as goal
 
 pub returns : goal.returns

@@ -7,7 +7,6 @@ use Rattle.reader.specs.Ask.{reader_at}
 use Rattle.reader.specs.Skip.{seek_offset}
 use Rattle.reader.proofs.Numbers.{skipped_same}
 use Rattle.export.specs.Replies.{skipped_reply}
-use borrow.Author.Rules.{rules}
 use Rattle.export.proofs.mv_seek.Goals as goal
 
 pub returns : goal.returns

@@ -5,7 +5,6 @@ use Rattle.state.specs.World.{before}
 use Rattle.reader.specs.Skip.{skip}
 use Rattle.reader.proofs.Numbers.{skipped_same}
 use Rattle.export.specs.Replies.{skipped_reply}
-use borrow.Author.Rules.{rules}
 use Rattle.export.proofs.mv_skip.Goals as goal
 
 pub returns : goal.returns

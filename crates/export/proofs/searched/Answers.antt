@@ -1,7 +1,6 @@
 -- `export::searched` meets its contract: by what the call ensures.
 -- Assumes nothing.
 use Rattle.export.proofs.Told.{sought_is}
-use borrow.Author.Rules.{rules}
 use Rattle.export.proofs.searched.Goals as goal
 
 pub returns : goal.returns

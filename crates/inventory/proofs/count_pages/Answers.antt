@@ -37,14 +37,10 @@ loop-here-init c = (refl, omega arith)
 
 pub returns-in-Stays : goal.returns-in-Stays
 returns-in-Stays c =
-    let g = c in
-    let l = c in
     counted_stays _ _ _ (turn (goal.at.returns-in-Stays c).After-back-s Stays c.in-Stays.is) ∙ c.loop-here.invariant.0 ∙ whole (goal.at.returns-in-Stays c).At-loop-here
 
 pub returns-in-Breaks : goal.returns-in-Breaks
 returns-in-Breaks c =
-    let g = c in
-    let l = c in
     counted_breaks c.loop-here.n _ (turn (goal.at.returns-in-Breaks c).After-back-s Breaks c.in-Breaks.is) ∙ c.loop-here.invariant.0 ∙ whole (goal.at.returns-in-Breaks c).At-loop-here
 
 pub overflow_add-n : goal.overflow_add-n
@@ -57,6 +53,5 @@ loop-here-smaller c = (turn (goal.at.loop-here-smaller c).After-back-s Reaches c
 
 pub loop-here-preserved : goal.loop-here-preserved
 loop-here-preserved c =
-    let g = c in
     let w = turn (goal.at.loop-here-preserved c).After-back-s Reaches c.in-Reaches.is in
     (counted_reaches c.loop-here.n _ _ _ w.0 ∙ c.loop-here.invariant.0, omega (arith, w.1))

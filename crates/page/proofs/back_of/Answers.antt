@@ -7,10 +7,8 @@ use Rattle.page.proofs.back_of.Goals as goal
 
 pub returns-then-begins-pair_reads : goal.returns-then-begins-pair_reads
 returns-then-begins-pair_reads c =
-    let p = c in
     rw (c.u16_at.ensures, c.u32_at.ensures) (sym (back_reads _ _ _ c.begins.ensures c.pair_reads.ensures c.if-begins-pair_reads.true))
 
 pub returns : goal.returns
 returns c =
-    let p = c in
     c.unread_back.ensures ∙ ap gives_back (sym (back_missing _ _ _ c.begins.ensures c.pair_reads.ensures c.if-begins-pair_reads.false))

@@ -6,7 +6,6 @@ use Rattle.page.proofs.meta_of.Goals as goal
 
 pub returns-then-begins : goal.returns-then-begins
 returns-then-begins c =
-    let b = c in
     rw (c.u32_at.ensures, c.u32_at-then-begins.ensures) (sym (meta_reads c.args.pg.now (sym c.begins.ensures ∙ c.if-begins.true)))
 
 pub returns : goal.returns

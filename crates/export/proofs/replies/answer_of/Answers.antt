@@ -1,6 +1,5 @@
 -- `export::replies::answer_of` meets its contract.
 -- Assumes nothing.
-use borrow.Author.Rules.{rules}
 use Rattle.export.proofs.replies.answer_of.Goals as goal
 
 pub returns-in-Offer : goal.returns-in-Offer

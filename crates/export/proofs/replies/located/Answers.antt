@@ -1,6 +1,5 @@
 -- `export::replies::located` meets its contract.
 -- Assumes nothing.
-use borrow.Author.Rules.{rules}
 use Rattle.export.proofs.replies.located.Goals as goal
 
 pub returns-in-At : goal.returns-in-At

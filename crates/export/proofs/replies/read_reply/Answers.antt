@@ -1,6 +1,5 @@
 -- `export::replies::read_reply` meets its contract.
 -- Assumes nothing.
-use borrow.Author.Rules.{rules}
 use Rattle.export.proofs.replies.read_reply.Goals as goal
 
 pub returns : goal.returns

@@ -1,6 +1,5 @@
 -- `export::replies::reply_of` meets its contract.
 -- Assumes nothing.
-use borrow.Author.Rules.{rules}
 use Rattle.export.proofs.replies.reply_of.Goals as goal
 
 pub returns : goal.returns

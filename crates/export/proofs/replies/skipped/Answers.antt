@@ -1,6 +1,5 @@
 -- `export::replies::skipped` meets its contract.
 -- Assumes nothing.
-use borrow.Author.Rules.{rules}
 use Rattle.export.proofs.replies.skipped.Goals as goal
 
 pub returns-in-To : goal.returns-in-To

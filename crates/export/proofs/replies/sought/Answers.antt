@@ -1,6 +1,5 @@
 -- `export::replies::sought` meets its contract.
 -- Assumes nothing.
-use borrow.Author.Rules.{rules}
 use Rattle.export.proofs.replies.sought.Goals as goal
 
 pub returns : goal.returns

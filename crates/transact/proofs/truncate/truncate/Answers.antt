@@ -70,7 +70,6 @@ change-requires-2 c =
 
 pub returns : goal.returns
 returns c =
-    let n = c in
     let a = c.args in
     let w = before a.image.now a.map.now a.table a.state in
     ap (in_numbers numbers)

@@ -23,7 +23,6 @@ returns-else-in_shape c =
 
 pub returns-else-edge : goal.returns-else-edge
 returns-else-edge c =
-    let w = c in
     let a = c.args in (
       c.if-edge.false ∙ follows_not a.image.now a.count a.f a.first c.requires (shaped (goal.at.returns-else-edge c).After-walk_back-edge) _ (last (goal.at.returns-else-edge c).After-walk_back-edge) _ c.walk_back-edge.ensures c.if-edge.false,
       λ z. edge_is a.image.now a.count a.f a.first c.requires (shaped (goal.at.returns-else-edge c).After-walk_back-edge) _ (last (goal.at.returns-else-edge c).After-walk_back-edge) _ c.walk_back-edge.ensures,
@@ -31,7 +30,6 @@ returns-else-edge c =
 
 pub returns : goal.returns
 returns c =
-    let w = c in
     let a = c.args in (
       follows_on a.image.now a.count a.f a.first c.requires (shaped (goal.at.returns c).After-walk_back-edge) _ (last (goal.at.returns c).After-walk_back-edge) _ c.walk_back-edge.ensures _ c.walk_back-whole.ensures c.if-edge.true,
       λ z. edge_is a.image.now a.count a.f a.first c.requires (shaped (goal.at.returns c).After-walk_back-edge) _ (last (goal.at.returns c).After-walk_back-edge) _ c.walk_back-edge.ensures,

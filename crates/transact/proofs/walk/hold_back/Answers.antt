@@ -42,12 +42,10 @@ returns-in-Breaks c =
 
 pub loop-here-smaller : goal.loop-here-smaller
 loop-here-smaller c =
-    let c7 = c in
     (turn (goal.at.loop-here-smaller c).After-back-next Reaches c.in-Reaches.is).1
 
 pub loop-here-preserved : goal.loop-here-preserved
 loop-here-preserved c =
-    let c7 = c in
     let o = c.loop-here in
     let w = turn (goal.at.loop-here-preserved c).After-back-next Reaches c.in-Reaches.is in
     (omega (arith, c.hold_other.auto.map, o.invariant.0), ends_through (wide o.here) (wide _) _ _ _ w.0 o.invariant.1, held_reaches _ o.map _ _ _ _ w.0 c.hold_other.ensures ∙ o.invariant.2)

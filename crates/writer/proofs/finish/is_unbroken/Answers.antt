@@ -21,13 +21,11 @@ whole l =
 
 pub returns-in-Stays : goal.returns-in-Stays
 returns-in-Stays c =
-    let l = c in
     let a = c.args in
     sym (ap unbroken (back_stays a.count (read_at a.image.now) c.loop-left.left (wide c.loop-left.here) c.loop-left-test.true (backs_to _ _ Stays _ c.back-next.ensures c.in-Stays.is))) ∙ whole (goal.at.returns-in-Stays c).At-loop-left
 
 pub returns-in-Breaks : goal.returns-in-Breaks
 returns-in-Breaks c =
-    let l = c in
     let a = c.args in
     sym (ap unbroken (back_breaks a.count (read_at a.image.now) c.loop-left.left (wide c.loop-left.here) c.loop-left-test.true (backs_to _ _ Breaks _ c.back-next.ensures c.in-Breaks.is))) ∙ whole (goal.at.returns-in-Breaks c).At-loop-left
 
@@ -38,7 +36,6 @@ loop-left-preserved c =
 
 pub returns : goal.returns
 returns c =
-    let l = c in
     let a = c.args in
     sym (back_few a.count (read_at a.image.now) c.loop-left.left (wide c.loop-left.here) c.loop-left-test.false) ∙ whole (goal.at.returns c).At-loop-left
 
