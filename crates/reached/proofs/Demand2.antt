@@ -13,7 +13,7 @@ use Rattle.chain.specs.Seek.{Agree}
 use Prim.Native.Nat.{ℕ, ◌+◌, ◌-◌, ◌≤◌, ◌<◌}
 use mathlib.Core.Path.{◌≡◌, refl, sym, ap, ap₂, subst, ◌∙◌}
 use mathlib.Core.Bool.{Bool, true, false, cond}
-use mathlib.Core.List.{List, [], ◌∷◌, map}
+use mathlib.Core.List.{List, [], ◌∷◌}
 use native.Mathlib.Omega.{arith}
 use lib.ListN.{length, get_or}
 use Rattle.page.specs.declared.DataHeader.{DataHeader}
@@ -23,7 +23,7 @@ use Rattle.state.specs.declared.types.State.{State}
 use Rattle.state.specs.declared.types.Done.{Done}
 use Rattle.state.specs.declared.types.Done.TheVariants.{Done as Fine}
 use Rattle.chain.specs.declared.PagePointer.{PagePointer}
-use Rattle.reached.specs.Asked.{file, nowhere, byte, byte_by, byte_at, SameFile, afresh, Again}
+use Rattle.reached.specs.Asked.{nowhere, byte, byte_by, byte_at, SameFile, afresh, Again}
 use Rattle.reached.proofs.Reach.{Sound}
 use Rattle.reached.proofs.Boots.{boots_as}
 use Rattle.agree.specs.Good.{RecordOk, Good}
@@ -31,7 +31,6 @@ use Rattle.agree.specs.View.{view, as_file, rec_at}
 use Rattle.agree.proofs.Commit.{Commits, commit_keeps}
 use Rattle.agree.proofs.Found.{Finds, mount_finds}
 use Rattle.agree.proofs.Idle.{checked_off}
-use Rattle.agree.proofs.Keeps.{known}
 use Rattle.agree.proofs.Pages.{clash, view_data}
 use Rattle.agree.proofs.Records.{file_by, rec_at_lem, file_at_lem}
 use Rattle.agree.proofs.Walking.{walk_complete, file_walk}
@@ -41,12 +40,11 @@ use Rattle.owners.specs.Store.{Link, dat, Store, File, live, Owner, Mem, here, t
 use Rattle.owners.proofs.Walks.{shorter_sub, walk_shorter}
 use Rattle.page.specs.Page.{page_of, Read, readable, header_of, holds}
 use Rattle.state.specs.Checks.{is_mounted}
-use Rattle.state.specs.Values.{empty_record, absent, file_at, closed}
+use Rattle.state.specs.Values.{empty_record, absent, file_at}
 use Rattle.chain.specs.Links.{oldest, ids}
 use Rattle.chain.specs.Steps.{read_at, back_rule, Trace, walk, visited}
 use Rattle.chain.proofs.Traces.{depends}
 use Rattle.chain.proofs.Walks.{walk_visits}
-use Rattle.chain.proofs.Written.{image}
 
 -- ---- bytes
 

@@ -18,7 +18,7 @@ use Prim.Native.Nat.{ℕ, zero, suc, ◌+◌, ◌-◌, ◌≤◌, ◌<◌}
 use mathlib.Core.Path.{◌≡◌, refl, sym, ap, ap₂, subst, ◌∙◌}
 use mathlib.Core.Bool.{Bool, true, false, cond}
 use mathlib.Core.Logic.{inl, inr}
-use mathlib.Core.List.{List, [], ◌∷◌, ◌++◌, map}
+use mathlib.Core.List.{List, [], ◌∷◌, ◌++◌}
 use native.Mathlib.Omega.{arith}
 use native.Mathlib.Decide.{ℕ_discrete, dec_lt}
 use lib.ListN.{length, drop, get_or, length-append, get_or-append}
@@ -30,7 +30,7 @@ use Rattle.state.specs.declared.types.FileRecord.{FileRecord}
 use Rattle.state.specs.declared.types.Done.{Done}
 use Rattle.state.specs.declared.types.Done.TheVariants.{Done as Fine, Refused}
 use Rattle.chain.specs.declared.PagePointer.{PagePointer}
-use Rattle.reached.specs.Asked.{In, held, OnChain, byte, byte_by, byte_at, Locates, Reads}
+use Rattle.reached.specs.Asked.{In, OnChain, byte, byte_by, byte_at, Locates, Reads}
 use Rattle.reached.proofs.Held.{Held}
 use Rattle.reached.proofs.Partition.{in_mem, mem_in, chain_pages}
 use Rattle.agree.specs.Good.{Good}
@@ -44,15 +44,14 @@ use Rattle.owners.specs.Moves.{mem_nil, mem_tail}
 use Rattle.owners.specs.State.{Base}
 use Rattle.owners.specs.Store.{Owner, Mem, there}
 use Rattle.owners.proofs.Commit.{idle}
-use Rattle.page.specs.Page.{page_of, Read, readable, gives, holds, Bytes}
+use Rattle.page.specs.Page.{page_of, Read, readable, holds}
 use Rattle.page.proofs.Headers.{header_bounds, header_there, holds_in, holds_bounds}
 use Rattle.page.proofs.Laws.{page_length}
 use Rattle.state.specs.Checks.{checks}
 use Rattle.state.specs.Refusals.{on_done}
 use Rattle.state.specs.Values.{file_at, in_shape}
-use Rattle.chain.specs.Links.{Stand, oldest, holder, older, ids, Among}
-use Rattle.chain.specs.Steps.{read_at, stepped, seek, walk}
-use Rattle.chain.proofs.Written.{image}
+use Rattle.chain.specs.Links.{Stand, oldest, holder, ids, Among}
+use Rattle.chain.specs.Steps.{read_at, seek, walk}
 use Rattle.runs.proofs.Laws.{length_part}
 
 -- a count and a record

@@ -17,7 +17,7 @@ use borrow.Author.Tests.{le-leb, lt-leb}
 use Rattle.page.specs.declared.DataHeader.{DataHeader}
 use Rattle.state.specs.declared.types.Table.{Table}
 use Rattle.chain.specs.declared.PagePointer.{PagePointer}
-use Rattle.reached.specs.Asked.{file, nowhere, byte, byte_by}
+use Rattle.reached.specs.Asked.{nowhere, byte, byte_by}
 use Rattle.reached.specs.Ledger.{draft_at}
 use Rattle.reached.proofs.Demand3.{among_mem, part_at}
 use Rattle.agree.specs.Rules.{Reaches, staged_page}
@@ -26,14 +26,13 @@ use Rattle.agree.proofs.Records.{link_some}
 use Rattle.agree.proofs.Ruling.{cut, stand_frame}
 use Rattle.agree.proofs.Staged.{Midst, page_in, flush_off, staged_link, chain_rest}
 use Rattle.agree.proofs.Walking.{to_page}
-use Rattle.owners.specs.Moves.{fresh}
-use Rattle.owners.specs.State.{link_of, Base, Writer, first_of}
-use Rattle.owners.specs.Store.{to, Owner, Mem, here}
+use Rattle.owners.specs.State.{link_of, Base, first_of}
+use Rattle.owners.specs.Store.{to, Owner, Mem}
 use Rattle.page.specs.Page.{page_of, Read, readable, header_of, holds}
 use Rattle.page.specs.Store.{ran}
 use Rattle.page.proofs.Back.{data_part}
 use Rattle.page.proofs.Headers.{holds_in}
-use Rattle.chain.specs.Links.{linked, Chain, oldest, holder, older, ids}
+use Rattle.chain.specs.Links.{Chain, oldest, holder, ids}
 use Rattle.chain.specs.Steps.{read_at, Trace, walk}
 use Rattle.chain.proofs.Chains.{holder_on, holder_holds, walk_chain}
 use Rattle.chain.proofs.Rules.{back_here}

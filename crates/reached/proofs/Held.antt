@@ -13,7 +13,7 @@ use Rattle.calls.specs.Calls.{Call, step, FromFormat, formats, reaches, boots, p
 use Prim.Native.Nat.{ℕ}
 use mathlib.Core.Path.{◌≡◌, refl, sym, subst}
 use mathlib.Core.Bool.{true}
-use mathlib.Core.List.{List, map}
+use mathlib.Core.List.{List}
 use lib.ListN.{length}
 use Rattle.state.specs.declared.types.Done.{Done}
 use Rattle.agree.specs.Good.{Known}
@@ -25,7 +25,7 @@ use Rattle.agree.proofs.Finish.{finish_keeps, discard_keeps}
 use Rattle.agree.proofs.Format.{format_known}
 use Rattle.reached.proofs.Boots.{found, finds, sizes_ok, boots_as}
 use Rattle.agree.proofs.Found.{mount_finds}
-use Rattle.agree.proofs.Keeps.{cond_by, known, start_keeps, left_keeps, right_keeps, flags_keeps, rename_keeps, record_end_keeps}
+use Rattle.agree.proofs.Keeps.{cond_by, start_keeps, left_keeps, right_keeps, flags_keeps, rename_keeps, record_end_keeps}
 use Rattle.agree.proofs.Mount.{mount_known}
 use Rattle.agree.proofs.Open.{open_keeps}
 use Rattle.agree.proofs.Pages.{clash}
@@ -36,9 +36,6 @@ use Rattle.owners.proofs.Finding.{mounted_one}
 use Rattle.page.specs.Page.{Bytes}
 use Rattle.state.specs.Checks.{sizes, is_mounted}
 use Rattle.state.proofs.Laws.{sizes_say}
-use Rattle.chain.specs.Steps.{seek}
-use Rattle.chain.proofs.Seeks.{right}
-use Rattle.chain.proofs.Written.{image}
 
 abbrev pub Held : World → Type 0
 Held w = Known (Unit {0}) (length w.map) w

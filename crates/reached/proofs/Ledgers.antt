@@ -14,7 +14,7 @@ use Rattle.writer.specs.Finish.{grown}
 use Prim.Native.Nat.{ℕ, zero, suc, ◌+◌, ◌≤◌, ◌<◌}
 use mathlib.Core.Path.{◌≡◌, refl, sym, ap, ap₂, subst, ◌∙◌}
 use mathlib.Core.Bool.{true, false, cond, not}
-use mathlib.Core.List.{List, [], ◌∷◌, ◌++◌, map, append-nil}
+use mathlib.Core.List.{List, [], ◌∷◌, ◌++◌, append-nil}
 use native.Mathlib.Omega.{arith}
 use native.Mathlib.Decide.{ℕ_discrete}
 use lib.ListN.{length, take, drop}
@@ -23,7 +23,6 @@ use borrow.Author.Tests.{eq-eqb, ne_eqb, eqb-true, eqb-false, ltb-false}
 use Rattle.page.specs.declared.DataHeader.{DataHeader}
 use Rattle.state.specs.declared.types.FileRecord.{FileRecord}
 use Rattle.state.specs.declared.types.Done.{Done}
-use Rattle.reached.specs.Asked.{file}
 use Rattle.reached.specs.Ledger.{Noted, Ledger, put_at, with_files, with_draft}
 use Rattle.reached.proofs.Drafts.{draft_behind, flush_byte, Drafted}
 use Rattle.reached.proofs.Sessions.{write_spelt}
@@ -34,28 +33,22 @@ use Rattle.agree.specs.View.{view, as_file, rec_at}
 use Rattle.state.proofs.Laws.{mounted_says, writer_says}
 use Rattle.agree.proofs.Counts.{good_mounted}
 use Rattle.agree.proofs.Finish.{numbers, grown_file}
-use Rattle.agree.proofs.Keeps.{cond_by, checked_by, known}
+use Rattle.agree.proofs.Keeps.{cond_by, checked_by}
 use Rattle.agree.proofs.Pages.{clash}
 use Rattle.agree.proofs.Records.{file_by, file_at_lem, with_at, with_off}
 use Rattle.agree.proofs.Staged.{Midst, flush_header, flush_change, flush_off, staged_ok}
-use Rattle.agree.proofs.Writes.{space_none, few_room, ready_first, ready_next, ready_more, Going, page_found, some, turn}
-use Rattle.owners.specs.State.{Base, Mounted, Writer, shut, ready, first_of, finished}
+use Rattle.agree.proofs.Writes.{space_none, few_room, ready_first, ready_next, ready_more, Going, page_found, turn}
+use Rattle.owners.specs.State.{Base, Mounted, first_of}
 use Rattle.owners.specs.Store.{File, live, limit, Owner}
-use Rattle.owners.proofs.Commit.{committed}
 use Rattle.owners.proofs.Finding.{mounted_one}
 use Rattle.owners.proofs.Frames.{mounted_change, loose_writer}
 use Rattle.page.specs.Page.{readable, Bytes}
-use Rattle.page.specs.Store.{stored, ran}
+use Rattle.page.specs.Store.{ran}
 use Rattle.page.proofs.Laws.{ran_append, bytes_drop}
-use Rattle.metalog.specs.Log.{fits}
-use Rattle.metalog.specs.Run.{added}
 use Rattle.state.specs.Refusals.{on_done}
 use Rattle.state.specs.Values.{file_at, with_file, no_writer, opened, with_cursor, with_writer}
-use Rattle.state.specs.World.{before}
 use Rattle.chain.specs.Steps.{read_at}
-use Rattle.chain.proofs.Written.{image}
 use Rattle.seq.specs.Seq.{below}
-use Rattle.runs.proofs.Laws.{tab}
 
 -- what the ledger says of the files' pages of an image
 pub record Pages (N : ℕ) (img : List ℕ) (count : ℕ) (tab : ℕ → File) (g : Ledger) : Type 0 where

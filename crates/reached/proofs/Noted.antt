@@ -7,7 +7,6 @@ use Rattle.transact.specs.Rename as TransactRename
 use Rattle.transact.specs.Rename.{changed_table, rename, swapped}
 use Rattle.transact.specs.Truncate.{dirtied}
 use Rattle.transact.specs.Commit.{commit}
-use Rattle.volume.specs.Mount.{good}
 use Rattle.reached.specs.Ledger.{Noted, Ledger, put_at, with_files}
 use Prim.Native.Nat.{ℕ, ◌≤◌, ◌<◌}
 use mathlib.Core.Path.{◌≡◌, refl, sym, ap, subst, ◌∙◌}
@@ -22,28 +21,24 @@ use Rattle.state.specs.declared.types.FileRecord.{FileRecord}
 use Rattle.state.specs.declared.types.Table.{Table}
 use Rattle.state.specs.declared.types.Done.{Done}
 use Rattle.state.specs.declared.types.Done.TheVariants.{Done as Fine, Refused}
-use Rattle.reached.specs.Asked.{file, writer}
 use Rattle.reached.proofs.Demand2.{bytes_kept, tab_is, page_same}
 use Rattle.reached.proofs.Ledgers.{Notes}
 use Rattle.reached.proofs.Tells.{Text, Tells, Silent, quiet_same}
 use Rattle.agree.specs.Good.{Good, Known}
 use Rattle.agree.specs.View.{view, as_file, rec_at}
 use Rattle.agree.proofs.Commit.{Commits, commit_keeps}
-use Rattle.agree.proofs.Keeps.{cond_by, checked_by, known, in_table}
+use Rattle.agree.proofs.Keeps.{cond_by, checked_by, in_table}
 use Rattle.agree.proofs.Pages.{clash}
 use Rattle.agree.proofs.Records.{file_at_lem, with_at, with_off, with_eight}
 use Rattle.agree.proofs.Walking.{walk_complete, file_walk}
 use Rattle.owners.specs.State.{Base}
 use Rattle.owners.specs.Store.{File, gone, live, Owner, Mem, FileAt}
-use Rattle.owners.proofs.Commit.{idle, committed}
 use Rattle.owners.proofs.Finding.{mounted_one}
 use Rattle.owners.proofs.Walks.{walk_head, shorter_sub, walk_shorter}
 use Rattle.page.specs.Page.{page_of, readable, header_of}
 use Rattle.state.specs.Refusals.{on_done}
 use Rattle.state.specs.Values.{file_at, with_file, flagged, with_flags, opened}
-use Rattle.chain.specs.Steps.{read_at, stays, walk}
-use Rattle.chain.proofs.Written.{image}
-use Rattle.runs.proofs.Laws.{tab}
+use Rattle.chain.specs.Steps.{read_at}
 
 -- ---- FLAGS
 

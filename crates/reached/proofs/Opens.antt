@@ -15,7 +15,7 @@ use Rattle.writer.specs.Open.{ready_writer, no_page, copy_writer, readied, copie
 use Prim.Native.Nat.{ℕ, ◌+◌, ◌-◌, ◌≤◌, ◌<◌}
 use mathlib.Core.Path.{◌≡◌, refl, sym, ap, subst, ◌∙◌}
 use mathlib.Core.Bool.{true}
-use mathlib.Core.List.{List, [], ◌∷◌, map}
+use mathlib.Core.List.{List, [], ◌∷◌}
 use native.Mathlib.Omega.{arith}
 use native.Mathlib.Nat.{zero-add}
 use native.Mathlib.Decide.{dec_le}
@@ -25,7 +25,7 @@ use borrow.Author.Tests.{eqb-false}
 use Rattle.state.specs.declared.types.FileRecord.{FileRecord}
 use Rattle.state.specs.declared.types.Done.{Done}
 use Rattle.chain.specs.declared.PagePointer.{PagePointer}
-use Rattle.reached.specs.Asked.{writer, byte, byte_by}
+use Rattle.reached.specs.Asked.{byte, byte_by}
 use Rattle.reached.specs.Ledger.{Noted, Ledger, with_draft, draft_at}
 use Rattle.reached.proofs.Demand3.{part_at}
 use Rattle.reached.proofs.Drafts.{walk_here, draft_staged, draft_behind, Drafted, placed_within}
@@ -35,24 +35,20 @@ use Rattle.agree.specs.Good.{RecordOk, Known}
 use Rattle.agree.specs.Rules.{Reaches}
 use Rattle.agree.specs.View.{as_file, rec_at}
 use Rattle.agree.proofs.Finish.{numbers}
-use Rattle.agree.proofs.Keeps.{cond_by, checked_by, known, in_table}
+use Rattle.agree.proofs.Keeps.{cond_by, checked_by, in_table}
 use Rattle.agree.proofs.Open.{ready_file, copy_file}
 use Rattle.agree.proofs.Records.{file_live, file_at_lem, file_end}
 use Rattle.agree.proofs.Ruling.{record_chain, stays_far}
-use Rattle.agree.proofs.Writes.{some}
-use Rattle.owners.specs.State.{first_of, last_of}
-use Rattle.owners.specs.Store.{limit}
+use Rattle.owners.specs.State.{first_of}
 use Rattle.page.specs.Page.{page_of, readable, holds}
 use Rattle.page.proofs.Headers.{header_bounds, header_there, holds_in}
 use Rattle.page.proofs.Laws.{page_length}
 use Rattle.state.specs.Values.{is_empty, in_shape, with_cursor, with_writer}
-use Rattle.chain.specs.Links.{linked, Chain, oldest, older}
+use Rattle.chain.specs.Links.{Chain, oldest}
 use Rattle.chain.specs.Steps.{read_at, back_rule, Stepped}
 use Rattle.chain.proofs.Chains.{holder_on, step_chain, walk_chain}
 use Rattle.chain.proofs.Rules.{back_falling, back_halts, back_via}
 use Rattle.chain.proofs.Traces.{Began, began}
-use Rattle.chain.proofs.Written.{image}
-use Rattle.map.specs.Map.{steps}
 use Rattle.runs.proofs.Laws.{length_part}
 
 ready_drafted : (img : List ℕ) (count i first : ℕ) (f : FileRecord) (l : Noted) → Tale img count f l → f.first_seq ≤ first → (f.last_page ≡ none → f.last_seq ≡ 0) → Drafted img count first (ready_writer i f) l.bytes

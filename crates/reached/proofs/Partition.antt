@@ -16,7 +16,7 @@ use native.Mathlib.Omega.{arith}
 use native.Mathlib.Decide.{ℕ_discrete, dec_lt}
 use lib.ListN.{length}
 use Rattle.state.specs.declared.types.FileRecord.{FileRecord}
-use Rattle.reached.specs.Asked.{In, Kind, OnChain, OfWriter, Is, One, byte}
+use Rattle.reached.specs.Asked.{In, Kind, OnChain, OfWriter, Is, One}
 use Rattle.reached.proofs.Reach.{Sound}
 use Rattle.agree.specs.Good.{Good}
 use Rattle.agree.specs.View.{view, code, as_file, rec_at}
@@ -31,11 +31,9 @@ use Rattle.owners.specs.Moves.{mem_nil}
 use Rattle.owners.specs.State.{Base, shut, WriterOk}
 use Rattle.owners.specs.Store.{Store, File, gone, outside, Mem, here, there, FileOk}
 use Rattle.owners.proofs.Finding.{case}
-use Rattle.page.specs.Store.{stored}
 use Rattle.state.specs.Checks.{is_mounted}
 use Rattle.state.specs.Values.{file_at}
 use Rattle.chain.specs.Steps.{read_at, walk, visited}
-use Rattle.chain.proofs.Written.{written, image}
 
 pub in_mem : {p : ℕ} {l : List ℕ} → In p l → Mem p l
 in_mem {p} {l} h = go l h

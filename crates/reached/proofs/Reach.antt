@@ -12,7 +12,6 @@ use Prim.Native.Nat.{ℕ}
 use mathlib.Core.Path.{◌≡◌, refl, sym, subst}
 use mathlib.Core.Bool.{Bool, true, false}
 use mathlib.Core.Logic.{◌⊎◌, inl, inr}
-use mathlib.Core.List.{map}
 use lib.ListN.{length}
 use Rattle.state.specs.declared.types.Done.{Done}
 use native.Mathlib.Omega.{arith}
@@ -23,7 +22,7 @@ use Rattle.agree.proofs.Counts.{good_mounted}
 use Rattle.agree.proofs.Finish.{finish_keeps, discard_keeps}
 use Rattle.agree.proofs.Format.{format_known}
 use Rattle.agree.proofs.Idle.{open_stays, write_stays, record_end_stays, finish_stays, discard_stays, truncate_stays, rename_stays, flags_stays, commit_stays, start_stays, answered_stays}
-use Rattle.agree.proofs.Keeps.{cond_by, known, start_keeps, left_keeps, right_keeps, flags_keeps, rename_keeps, record_end_keeps}
+use Rattle.agree.proofs.Keeps.{cond_by, start_keeps, left_keeps, right_keeps, flags_keeps, rename_keeps, record_end_keeps}
 use Rattle.agree.proofs.Mount.{mount_known}
 use Rattle.agree.proofs.Open.{open_keeps}
 use Rattle.agree.proofs.Pages.{clash}
@@ -33,9 +32,6 @@ use Rattle.page.specs.Page.{Bytes}
 use Rattle.state.specs.Checks.{sizes, is_mounted}
 use Rattle.state.specs.Values.{unmounted}
 use Rattle.state.proofs.Laws.{sizes_say, mounted_says}
-use Rattle.chain.specs.Steps.{seek}
-use Rattle.chain.proofs.Seeks.{right}
-use Rattle.chain.proofs.Written.{image}
 
 pub record Sound (w : World) : Type 0 where
   pub bytes : Bytes w.image

@@ -7,24 +7,21 @@ use Rattle.writer.specs.Write.{Writing, write_from, put}
 use Rattle.writer.specs.Write as turns
 use Prim.Native.Nat.{ℕ, zero, suc, ◌≤◌}
 use mathlib.Core.Path.{◌≡◌, refl, sym, ap, subst, ◌∙◌}
-use mathlib.Core.List.{List, [], ◌∷◌, ◌++◌, map, append_assoc, append-nil}
+use mathlib.Core.List.{List, [], ◌∷◌, ◌++◌, append_assoc, append-nil}
 use native.Mathlib.Omega.{arith}
 use native.Mathlib.Decide.{ℕ_discrete}
 use lib.ListN.{length, take, drop, set, length-take, length-drop, take-append-drop}
-use Rattle.reached.specs.Asked.{file, writer}
 use Rattle.reached.proofs.Drafts.{Drafted, drafted_grown, drafted_staged, drafted_next}
 use Rattle.agree.specs.Rules.{Reaches, staged_page}
 use Rattle.agree.specs.View.{as_file, rec_at}
 use Rattle.agree.proofs.Finish.{numbers}
-use Rattle.agree.proofs.Keeps.{known}
 use Rattle.agree.proofs.Staged.{staged_ok}
 use Rattle.agree.proofs.Writes.{space_none, space_some, fresh_space, ready_first, ready_next, ready_more, Going, page_found, some, turn}
-use Rattle.owners.specs.State.{ready, first_of}
+use Rattle.owners.specs.State.{first_of}
 use Rattle.page.specs.Page.{Bytes}
 use Rattle.page.specs.Store.{ran}
 use Rattle.page.proofs.Laws.{ran_append, bytes_drop}
 use Rattle.state.specs.Values.{with_cursor, with_writer}
-use Rattle.chain.proofs.Written.{image}
 
 -- the writer's bytes in the midst of a write, with g so far
 abbrev pub Spelt : World → Writing → List ℕ → Type 0

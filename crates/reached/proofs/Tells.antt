@@ -14,12 +14,12 @@ use Rattle.state.specs.declared.types.Search.{Search}
 use Prim.Native.Nat.{ℕ, ◌≤◌, ◌<◌}
 use mathlib.Core.Path.{◌≡◌, refl, sym, ap, subst, ◌∙◌}
 use mathlib.Core.Bool.{true, false}
-use mathlib.Core.List.{List, map}
+use mathlib.Core.List.{List}
 use lib.ListN.{length, get_or}
 use Rattle.page.specs.declared.DataHeader.{DataHeader}
 use Rattle.state.specs.declared.types.FileRecord.{FileRecord}
 use Rattle.chain.specs.declared.PagePointer.{PagePointer}
-use Rattle.reached.specs.Asked.{file, writer, Byte, byte, byte_by}
+use Rattle.reached.specs.Asked.{Byte, byte, byte_by}
 use Rattle.reached.specs.Ledger.{Noted, Ledger, draft_at}
 use Rattle.reached.proofs.Demand2.{bytes_kept}
 use Rattle.reached.proofs.Drafts.{Drafted}
@@ -29,17 +29,12 @@ use Rattle.agree.proofs.Pages.{clash}
 use Rattle.agree.specs.Good.{RecordOk}
 use Rattle.agree.proofs.Records.{file_by}
 use Rattle.agree.proofs.Walking.{walk_complete, file_walk}
-use Rattle.owners.specs.State.{Base, Mounted, Writer, first_of, Back}
+use Rattle.owners.specs.State.{Base, Mounted, first_of}
 use Rattle.owners.specs.Store.{File, gone, live, Owner, Mem, FileAt}
-use Rattle.owners.proofs.Commit.{committed}
 use Rattle.owners.proofs.Walks.{walk_head, shorter_sub, walk_shorter}
 use Rattle.page.specs.Page.{page_of, readable, header_of}
-use Rattle.page.specs.Store.{stored}
 use Rattle.state.specs.Values.{file_at, is_empty, in_shape, no_writer, no_search, with_writer, with_search}
-use Rattle.chain.specs.Links.{Stand}
-use Rattle.chain.specs.Steps.{read_at, lost, Sought, walk}
-use Rattle.chain.proofs.Seeks.{right}
-use Rattle.runs.proofs.Laws.{tab}
+use Rattle.chain.specs.Steps.{read_at, walk}
 
 -- the byte at a number, from a page back
 abbrev pub byte_from : List ℕ → ℕ → PagePointer → ℕ → Byte

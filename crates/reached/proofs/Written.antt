@@ -25,7 +25,7 @@ use Rattle.reached.specs.Ledger.{Noted, Ledger, blank, nothing, put_at, with_fil
 use Prim.Native.Nat.{ℕ, ◌+◌, ◌-◌, ◌*◌, ◌≤◌, ◌<◌, min}
 use mathlib.Core.Path.{◌≡◌, refl, sym, ap, ap₂, subst, ◌∙◌}
 use mathlib.Core.Bool.{Bool, true, false, cond}
-use mathlib.Core.List.{List, map}
+use mathlib.Core.List.{List}
 use native.Mathlib.Omega.{arith}
 use native.Mathlib.Decide.{ℕ_discrete}
 use lib.ListN.{length, get_or}
@@ -34,7 +34,7 @@ use borrow.Author.Tests.{eq-eqb, ne_eqb, eqb-true, eqb-false}
 use Rattle.state.specs.declared.types.FileRecord.{FileRecord}
 use Rattle.state.specs.declared.types.Done.{Done}
 use Rattle.state.specs.declared.types.Done.TheVariants.{Done as Fine}
-use Rattle.reached.specs.Asked.{writer, byte_at}
+use Rattle.reached.specs.Asked.{byte_at}
 use Rattle.reached.proofs.Boots.{boots_as, boot_fine}
 use Rattle.reached.proofs.Held.{Held, boot_known, boot_held, step_held, format_reached}
 use Rattle.reached.proofs.Ledgers.{Notes, write_notes, finish_notes}
@@ -46,23 +46,19 @@ use Rattle.agree.specs.View.{view, as_file, rec_at}
 use Rattle.owners.specs.State.{Base, Mounted}
 use Rattle.agree.proofs.Format.{empty_at, format_known}
 use Rattle.agree.proofs.Found.{mount_finds}
-use Rattle.agree.proofs.Keeps.{cond_by, checked_by, known, in_table}
+use Rattle.agree.proofs.Keeps.{cond_by, checked_by, in_table}
 use Rattle.agree.proofs.Pages.{clash}
 use Rattle.agree.proofs.Records.{file_gone, file_live, empty_gone, file_at_lem}
 use Rattle.agree.proofs.Writes.{some}
 use Rattle.owners.specs.Store.{File, gone}
-use Rattle.owners.proofs.Commit.{idle, committed}
 use Rattle.owners.proofs.Finding.{mounted_one}
 use Rattle.page.specs.Page.{Bytes}
 use Rattle.page.proofs.Laws.{ran_length}
 use Rattle.state.specs.Checks.{sizes}
 use Rattle.state.specs.Refusals.{on_done}
-use Rattle.state.specs.Values.{empty_record, empty_table, file_at, is_empty, in_shape, no_writer, opened, closed}
+use Rattle.state.specs.Values.{empty_record, empty_table, file_at, is_empty, in_shape, no_writer, opened}
 use Rattle.state.proofs.Laws.{sizes_say}
-use Rattle.chain.specs.Steps.{read_at, Sought, seek, walk}
-use Rattle.chain.proofs.Seeks.{right}
-use Rattle.chain.proofs.Written.{image}
-use Rattle.runs.proofs.Laws.{tab}
+use Rattle.chain.specs.Steps.{read_at, Sought, walk}
 
 -- ---- TRUNCATE
 

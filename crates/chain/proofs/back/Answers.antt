@@ -1,6 +1,5 @@
 -- `chain::back` meets its contract: the tests that led to each return say which case it is.
 -- Assumes nothing.
--- the test of the link
 use mathlib.Core.Path.{◌≡◌, ◌∙◌, ap}
 use Prim.Native.Nat.{ℕ}
 use lib.Dec.{eqb}
@@ -9,6 +8,7 @@ use Rattle.chain.proofs.Places.{back_told_stays, back_told_reaches, back_told_br
 use Rattle.chain.proofs.back.Goals as goal
 use Rattle.chain.proofs.back.Goals.{After-is_none}
 
+-- the test of the link
 is_none : (c : After-is_none) → c.is_none.result ≡ eqb c.args.p.link none
 is_none c = c.is_none.ensures ∙ ap (λ (x : ℕ). eqb x none) c.from_raw.ensures
 

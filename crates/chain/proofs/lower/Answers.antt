@@ -1,6 +1,5 @@
 -- `chain::lower` meets its contract: the tests that led to each return say which case it is.
 -- Assumes nothing.
--- the id is a page
 use mathlib.Core.Path.{◌≡◌, sym, ◌∙◌, ap}
 use Rattle.seq.specs.Ids.{none}
 use Rattle.seq.specs.declared.ids.PageOption.TheVariants.{Some, None}
@@ -9,6 +8,7 @@ use Rattle.chain.proofs.Steps.{shown, lower_none, lower_outside, lower_falls, lo
 use Rattle.chain.proofs.lower.Goals as goal
 use Rattle.chain.proofs.lower.Goals.{After-index-at}
 
+-- the id is a page
 some : (i : After-index-at)
     → let id = i.args.id in
     (i.index-at.result ≡ id) × (id ≡ none → ⊥)

@@ -1,6 +1,5 @@
 -- `chain::lower_back` meets its contract: the tests that led to each return say which case it is.
 -- Assumes nothing.
--- the test of the id
 use mathlib.Core.Path.{◌≡◌, sym, ◌∙◌, ap}
 use Prim.Native.Nat.{ℕ}
 use lib.Dec.{eqb}
@@ -10,6 +9,7 @@ use Rattle.chain.proofs.Places.{barred, passed, lower_barred, lower_back_falls, 
 use Rattle.chain.proofs.lower_back.Goals as goal
 use Rattle.chain.proofs.lower_back.Goals.{After-is_none}
 
+-- the test of the id
 is_none : (c : After-is_none) → c.is_none.result ≡ eqb c.args.id none
 is_none c = c.is_none.ensures ∙ ap (λ (x : ℕ). eqb x none) c.from_raw.ensures
 

@@ -1,6 +1,5 @@
 -- `chain::prev` meets its contract: the step from the page's place is the step from the page, and the header of the page reached reads.
 -- Assumes nothing.
--- what the step from the place says of the page
 use mathlib.Core.Path.{◌≡◌, sym, ◌∙◌, ap}
 use Rattle.page.specs.Page.{gives}
 use Rattle.page.specs.declared.DataHeader.{DataHeader}
@@ -16,6 +15,7 @@ use Rattle.chain.proofs.Places.{BacksTo, backs_from}
 use Rattle.chain.proofs.prev.Goals as goal
 use Rattle.chain.proofs.prev.Goals.{After-back-next}
 
+-- what the step from the place says of the page
 turn : (g : After-back-next) (k : Kind) → g.back-next.result.kind ≡ k
     → let a = g.args in
     BacksTo (step (back_rule a.count a.limit) (read_at a.image.now) a.p) k g.back-next.result.place

@@ -1,7 +1,6 @@
 -- `chain::prev_seq` meets its contract: what is answered in the end from the page at hand, after so many headers, is what is answered
 -- from the first page. The start falls, so that no more headers are read than the first start says, which fits.
 -- Assumes nothing.
--- a turn that read a page: the trace from there, and an earlier start
 use mathlib.Core.Path.{◌≡◌, ◌∙◌}
 use Prim.Native.Nat.{◌<◌}
 use native.Mathlib.Omega.{arith}
@@ -14,6 +13,7 @@ use Rattle.chain.proofs.Steps.{seek_stays, seek_reaches, seek_breaks, after_firs
 use Rattle.chain.proofs.prev_seq.Goals as goal
 use Rattle.chain.proofs.prev_seq.Goals.{After-header-1}
 
+-- a turn that read a page: the trace from there, and an earlier start
 turn : (c : After-header-1)
     → let a = c.args in
     let q : PagePointer = record { page_id = c.link_toward-id.result; header = c.lower-next.result.header } in

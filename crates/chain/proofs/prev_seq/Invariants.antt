@@ -1,7 +1,6 @@
 -- `chain::prev_seq` meets its contract: what is answered in the end from the page at hand, after so many headers, is what is answered
 -- from the first page. The start falls, so that no more headers are read than the first start says, which fits.
 -- Assumes nothing.
--- a turn that read a page: the trace from there, and an earlier start
 use mathlib.Core.Path.{◌≡◌}
 use Prim.Native.Nat.{◌+◌, ◌≤◌}
 use Rattle.chain.specs.Links.{start}

@@ -1,6 +1,5 @@
 -- `chain::walk_back` meets its contract: the walk ends where the walk from the page at hand ends.
 -- Assumes nothing.
--- what the step of a turn says
 use mathlib.Core.Path.{◌≡◌, sym, ◌∙◌, ap}
 use Rattle.chain.specs.declared.Kind.{Kind}
 use Rattle.chain.specs.declared.Kind.TheVariants.{Stays, Reaches, Breaks}
@@ -10,6 +9,7 @@ use Rattle.chain.proofs.Places.{SaysBack, says_back}
 use Rattle.chain.proofs.walk_back.Goals as goal
 use Rattle.chain.proofs.walk_back.Goals.{After-back-next}
 
+-- what the step of a turn says
 turn : (g : After-back-next) (k : Kind) → g.back-next.result.kind ≡ k
     → let l = g in
     let a = g.args in

@@ -1,6 +1,5 @@
 -- `chain::walk_back` meets its contract: the walk ends where the walk from the page at hand ends.
 -- Assumes nothing.
--- what the step of a turn says
 use mathlib.Core.Path.{◌≡◌}
 use Rattle.chain.specs.Steps.{read_at}
 use Rattle.chain.specs.Back.{walk_back, reached_by}

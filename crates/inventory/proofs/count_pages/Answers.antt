@@ -1,8 +1,6 @@
 -- `inventory::count_pages` meets its contract: the pages counted so far and those of the walk from the page at hand are all. A page more
 -- is a lower start, so that the count stays small.
 -- Assumes nothing.
--- what the step of a turn says
--- the walk from the first page's place is that from the page
 use mathlib.Core.Path.{◌≡◌, refl, ap, ◌∙◌}
 use native.Mathlib.Omega.{arith}
 use Rattle.chain.specs.declared.Kind.{Kind}
@@ -17,12 +15,14 @@ use Rattle.inventory.proofs.Pages.{counted, counted_stays, counted_breaks, count
 use Rattle.inventory.proofs.count_pages.Goals as goal
 use Rattle.inventory.proofs.count_pages.Goals.{After-back-s, At-loop-here}
 
+-- what the step of a turn says
 turn : (g : After-back-s) (k : Kind) → g.back-s.result.kind ≡ k
     → let l = g in
     let a = g.args in
     SaysBack a.count (read_at a.image.now) a.limit g.loop-here.here k g.back-s.result.place
 turn g k e = says_back _ _ _ _ g.back-s.result k g.back-s.ensures e
 
+-- the walk from the first page's place is that from the page
 whole : (l : At-loop-here)
     → let a = l.args in
     counted 1 (walk_back a.count (read_at a.image.now) a.limit l.place_of-here.result) ≡ pages_from a.image.now a.count a.limit 1 a.p

@@ -1,8 +1,6 @@
 -- `inventory::count_pages` meets its contract: the pages counted so far and those of the walk from the page at hand are all. A page more
 -- is a lower start, so that the count stays small.
 -- Assumes nothing.
--- what the step of a turn says
--- the walk from the first page's place is that from the page
 use mathlib.Core.Path.{◌≡◌}
 use Prim.Native.Nat.{◌+◌, ◌≤◌}
 use Rattle.chain.specs.Steps.{read_at}

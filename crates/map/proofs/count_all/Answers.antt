@@ -1,4 +1,4 @@
--- `map::count_all` meets its contract. The invariant: what was counted, and what is free in the rest, is what is free.
+-- `map::count_all` meets its contract.
 -- Assumes nothing.
 use Rattle.map.proofs.Laws.{count_split, count_le}
 use Rattle.map.specs.Map.{free_count}

@@ -1,6 +1,5 @@
 -- `metalog::batch_at` meets its contract.
 -- Assumes nothing.
--- past the first two tests the pair decides
 use Rattle.metalog.specs.Log.{batch_at, batch_of}
 use Rattle.metalog.specs.declared.Batch.TheVariants.{Entries, Bad}
 use lib.ListN.{length}
@@ -12,6 +11,7 @@ use borrow.Author.Tests.{eq-eqb, ne_eqb, lt-ltb, le-ltb, le-leb, lt-leb}
 use Rattle.metalog.proofs.batch_at.Goals as goal
 use Rattle.metalog.proofs.batch_at.Goals.{After-pair_good}
 
+-- past the first two tests the pair decides
 pair : (c : After-pair_good)
     → batch_at c.args.bs.now
     ≡ cond c.pair_good.result

@@ -1,6 +1,5 @@
 -- `metalog::end_of` meets its contract.
 -- Assumes nothing.
--- a batch's entries are there
 use Rattle.metalog.proofs.Laws.{Room, batch_room, further, further_none, end_more, end_end, end_bad}
 use Rattle.metalog.specs.Log.{log_of, end_of}
 use Rattle.runs.proofs.Laws.{rest_drop}
@@ -12,6 +11,7 @@ use Prim.Native.Nat.{ℕ, ◌≤◌, ◌+◌, ◌-◌, ◌*◌}
 use Rattle.metalog.proofs.end_of.Goals as goal
 use Rattle.metalog.proofs.end_of.Goals.{In-Entries}
 
+-- a batch's entries are there
 room : (c : In-Entries) → Room c.in-Entries.n (length c.loop-n.rest.now)
 room c = batch_room c.loop-n.rest.now c.in-Entries.n (sym c.batch_at-b.ensures ∙ c.in-Entries.is)
 

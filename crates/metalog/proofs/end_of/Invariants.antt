@@ -1,6 +1,5 @@
 -- `metalog::end_of` meets its contract.
 -- Assumes nothing.
--- a batch's entries are there
 use Rattle.metalog.proofs.Laws.{further}
 use Rattle.metalog.specs.Log.{log_of, end_of}
 use lib.ListN.{length}

@@ -1,6 +1,5 @@
 -- `metalog::replay_log` meets its contract.
 -- Assumes nothing.
--- a batch's entries are there
 use Rattle.metalog.proofs.Laws.{Room, batch_room, replay_more, replay_end, replay_bad}
 use Rattle.metalog.specs.declared.Replay.{Replay}
 use Rattle.metalog.specs.Log.{entries, log_of, adds, replayed}
@@ -15,6 +14,7 @@ use Prim.Native.Nat.{ℕ, ◌+◌, ◌*◌}
 use Rattle.metalog.proofs.replay_log.Goals as goal
 use Rattle.metalog.proofs.replay_log.Goals.{In-Entries}
 
+-- a batch's entries are there
 room : (c : In-Entries) → Room c.in-Entries.n (length c.loop-s.rest.now)
 room c = batch_room c.loop-s.rest.now c.in-Entries.n (sym c.batch_at-b.ensures ∙ c.in-Entries.is)
 

@@ -1,6 +1,5 @@
 -- `metalog::replay_log` meets its contract.
 -- Assumes nothing.
--- a batch's entries are there
 use Rattle.metalog.specs.Log.{log_of, replayed}
 use lib.ListN.{length}
 use mathlib.Core.Path.{◌≡◌}

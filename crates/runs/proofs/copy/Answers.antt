@@ -1,4 +1,4 @@
--- `runs::copy` meets its contract. The invariant: the first i bytes are those of s, the others as they were.
+-- `runs::copy` meets its contract.
 -- Assumes nothing.
 use Rattle.runs.proofs.Laws.{copy_more, copy_all}
 use native.Mathlib.Omega.{arith}

@@ -1,4 +1,4 @@
--- `runs::fill` meets its contract. The invariant: the first i bytes are v, the others as they were.
+-- `runs::fill` meets its contract.
 -- Assumes nothing.
 use borrow.Author.Fill.{fill_more}
 use native.Mathlib.Omega.{arith}

@@ -1,9 +1,5 @@
 -- `volume::claim_walk` meets its contract: what the pages from the one at hand on give on the map as it is, the whole walk gives.
 -- Assumes nothing.
--- the page at hand was free
--- what the step of a turn says
--- the map is as long as it was
--- what the walk from the first page's place gives is what the walk from the page gives
 use mathlib.Core.Path.{◌≡◌, refl, sym, ap, ◌∙◌}
 use mathlib.Core.Bool.{true}
 use mathlib.Core.List.{List}
@@ -21,21 +17,25 @@ use Rattle.volume.proofs.Claims.{claim_taken, claim_stays, claim_breaks, claim_r
 use Rattle.volume.proofs.claim_walk.Goals as goal
 use Rattle.volume.proofs.claim_walk.Goals.{After-back-next, At-loop-here, Then-claim_page}
 
+-- the page at hand was free
 free : (g : Then-claim_page)
     → let l = g.loop-here in
     eqb (get_or l.map l.here.page_id 0) 0 ≡ true
 free g = sym g.claim_page.ensures.0 ∙ g.if-claim_page.true
 
+-- what the step of a turn says
 turn : (g : After-back-next) (k : Kind) → g.back-next.result.kind ≡ k
     → let l = g in
     let a = g.args in
     SaysBack a.count (read_at a.image.now) a.first g.loop-here.here k g.back-next.result.place
 turn g k e = says_back _ _ _ _ g.back-next.result k g.back-next.ensures e
 
+-- the map is as long as it was
 kept : (g : Then-claim_page)
     → length g.claim_page.new.map ≡ length g.args.map.now
 kept g = g.claim_page.auto.map ∙ g.loop-here.invariant.1
 
+-- what the walk from the first page's place gives is what the walk from the page gives
 whole : (l : At-loop-here)
     → let a = l.args in
     let p = l.place_of-here.result in

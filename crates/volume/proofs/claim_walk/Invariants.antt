@@ -1,9 +1,5 @@
 -- `volume::claim_walk` meets its contract: what the pages from the one at hand on give on the map as it is, the whole walk gives.
 -- Assumes nothing.
--- the page at hand was free
--- what the step of a turn says
--- the map is as long as it was
--- what the walk from the first page's place gives is what the walk from the page gives
 use mathlib.Core.Path.{◌≡◌}
 use lib.ListN.{length}
 use Rattle.chain.specs.Steps.{read_at}

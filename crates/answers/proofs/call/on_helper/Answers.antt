@@ -3,9 +3,6 @@
 use Rattle.answers.specs.Calls.{on_helper}
 use Rattle.answers.proofs.call.on_helper.Goals as goal
 
--- LEFT slice-aggregate-one : tie.Need-slice-aggregate-one
--- slice-aggregate-one c = search rules
-
 pub returns-in-Zeros : goal.returns-in-Zeros
 unfolding on_helper
 returns-in-Zeros c = rw (c.in-Zeros.is, ← c.max_trailing_zeros_between.ensures) c.said_number.ensures

@@ -20,9 +20,6 @@ pub returns-then-bytes-n : goal.returns-then-bytes-n
 unfolding read_of
 returns-then-bytes-n c = rw (lt-ltb _ _ c.if-bytes-n.true) (ap (sight _) c.bad.ensures)
 
--- LEFT slice-aggregate-hex : tie.Need-slice-aggregate-hex
--- slice-aggregate-hex c = search rules
-
 pub returns-in-Done : goal.returns-in-Done
 unfolding read_of
 returns-in-Done c = let a = c.args in

@@ -3,9 +3,6 @@
 use Rattle.answers.specs.Calls.{located}
 use Rattle.answers.proofs.call.said_located.Goals as goal
 
--- LEFT slice-aggregate-two : tie.Need-slice-aggregate-two
--- slice-aggregate-two c = search rules
-
 pub returns-in-At : goal.returns-in-At
 unfolding located
 returns-in-At c = rw c.in-At.is c.two.ensures

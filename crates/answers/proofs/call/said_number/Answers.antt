@@ -2,9 +2,6 @@
 -- Assumes nothing.
 use Rattle.answers.proofs.call.said_number.Goals as goal
 
--- LEFT slice-aggregate-one : tie.Need-slice-aggregate-one
--- slice-aggregate-one c = search rules
-
 pub returns-in-Number : goal.returns-in-Number
 returns-in-Number c = rw c.in-Number.is c.one.ensures
 

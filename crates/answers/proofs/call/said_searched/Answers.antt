@@ -3,12 +3,6 @@
 use Rattle.answers.specs.Calls.{sought}
 use Rattle.answers.proofs.call.said_searched.Goals as goal
 
--- LEFT slice-aggregate-one : tie.Need-slice-aggregate-one
--- slice-aggregate-one c = search rules
-
--- LEFT slice-aggregate-one-2 : tie.Need-slice-aggregate-one-2
--- slice-aggregate-one-2 c = search rules
-
 pub returns-in-Offer : goal.returns-in-Offer
 unfolding sought
 returns-in-Offer c = rw c.in-Offer.is c.one.ensures

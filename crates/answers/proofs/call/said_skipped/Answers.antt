@@ -3,9 +3,6 @@
 use Rattle.answers.specs.Calls.{skipped}
 use Rattle.answers.proofs.call.said_skipped.Goals as goal
 
--- LEFT slice-aggregate-one : tie.Need-slice-aggregate-one
--- slice-aggregate-one c = search rules
-
 pub returns-in-To : goal.returns-in-To
 unfolding skipped
 returns-in-To c = rw c.in-To.is c.one.ensures

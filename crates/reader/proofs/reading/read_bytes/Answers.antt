@@ -1,6 +1,5 @@
 -- `reader::reading::read_bytes` meets its contract: what is read so far with what is left to read is what the whole read gives.
 -- Assumes nothing.
--- what a turn leaves
 use mathlib.Core.Path.{◌≡◌, refl, sym, ◌∙◌}
 use Prim.Native.Nat.{◌+◌, ◌≤◌}
 use native.Mathlib.Omega.{arith}
@@ -9,6 +8,7 @@ use Rattle.reader.proofs.Bytes.{bytes, rest, rest_first, turn_none, turn_again, 
 use Rattle.reader.proofs.reading.read_bytes.Goals as goal
 use Rattle.reader.proofs.reading.read_bytes.Goals.{Else-n-eq0}
 
+-- what a turn leaves
 again : (c : Else-n-eq0)
     → let a = c.args in
     (c.loop-done.done + c.read_page-n.result ≤ length c.read_page-n.new.out)

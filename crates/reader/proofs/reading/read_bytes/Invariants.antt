@@ -1,6 +1,5 @@
 -- `reader::reading::read_bytes` meets its contract: what is read so far with what is left to read is what the whole read gives.
 -- Assumes nothing.
--- what a turn leaves
 use mathlib.Core.Path.{◌≡◌}
 use Prim.Native.Nat.{◌≤◌, ◌-◌}
 use lib.ListN.{length}

@@ -1,4 +1,4 @@
--- `script::bytes::number_of` meets its contract. The invariant: what the digits that are left add gives the whole's number.
+-- `script::bytes::number_of` meets its contract.
 -- Assumes nothing.
 use Rattle.script.proofs.Laws.{digits_more, digits_bad}
 use Rattle.script.specs.Bytes.{more, digits, number_of}

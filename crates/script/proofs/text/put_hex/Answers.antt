@@ -1,5 +1,4 @@
--- `script::text::put_hex` meets its contract. The invariant: the digits that are left, stored from o on, give what all of them give from
--- at on.
+-- `script::text::put_hex` meets its contract.
 -- Assumes nothing.
 use Rattle.script.proofs.Laws.{splice_none, hex_length, hex_stored}
 use mathlib.Core.List.{[]}

@@ -1,4 +1,4 @@
--- `script::text::until` meets its contract. The invariant: the part so far, and what the search behind it gives, is what the whole gives.
+-- `script::text::until` meets its contract.
 -- Assumes nothing.
 use Rattle.script.proofs.Laws.{until_more, until_hit}
 use Rattle.script.specs.Text.{until}

@@ -1,6 +1,5 @@
 -- `transact::truncate::truncate` meets its contract: one law for each exit.
 -- Assumes nothing.
--- the walk ends at a page, and which
 use mathlib.Core.Path.{sym, ◌∙◌, refl, ap}
 use Rattle.state.specs.Refusals.{numbers}
 use Rattle.state.specs.World.{World, before, ended, in_numbers}
@@ -58,6 +57,7 @@ returns-then-not-edge c =
     (truncate_damaged w a.file a.bytes (sym c.check-seen.ensures ∙ c.in_default.is) c.if-bytes-eq0.false c.if-f.false
     (sym c.edge_of-edge.ensures.0 ∙ not-true _ c.if-not-edge.true)))
 
+-- the walk ends at a page, and which
 pub hold_unreached-requires : goal.hold_unreached-requires
 hold_unreached-requires c =
     let ok = not-false _ c.if-not-edge.false in

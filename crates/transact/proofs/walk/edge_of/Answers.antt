@@ -1,6 +1,5 @@
 -- `transact::walk::edge_of` meets its contract: the walk to the new first_seq, and the walk on from where it ends.
 -- Assumes nothing.
--- the record is in shape, and the first walk starts at its last page
 use mathlib.Core.Path.{◌≡◌, sym, ◌∙◌, ap}
 use mathlib.Core.Bool.{true, false≢true}
 use Rattle.chain.specs.Files.{last_of}
@@ -10,6 +9,7 @@ use Rattle.transact.proofs.Steps.{follows_unshaped, follows_not, follows_on, edg
 use Rattle.transact.proofs.walk.edge_of.Goals as goal
 use Rattle.transact.proofs.walk.edge_of.Goals.{After-walk_back-edge}
 
+-- the record is in shape, and the first walk starts at its last page
 shaped : (w : After-walk_back-edge) → let a = w.args in in_shape a.count a.f ≡ true
 shaped w = sym w.in_shape.ensures ∙ w.if-in_shape.true
 

@@ -1,6 +1,5 @@
 -- `transact::walk::hold_back` meets its contract: what is held in the end, of the pages after the one at hand, is what the whole holds.
 -- Assumes nothing.
--- what the step of a turn says
 use mathlib.Core.Path.{◌≡◌, refl, ◌∙◌}
 use native.Mathlib.Omega.{arith}
 use Rattle.chain.specs.declared.Kind.{Kind}
@@ -13,6 +12,7 @@ use Rattle.transact.proofs.Steps.{held_stays, held_reaches}
 use Rattle.transact.proofs.walk.hold_back.Goals as goal
 use Rattle.transact.proofs.walk.hold_back.Goals.{After-back-next}
 
+-- what the step of a turn says
 turn : (g : After-back-next) (k : Kind) → g.back-next.result.kind ≡ k
     → let l = g in
     let a = g.args in

@@ -1,6 +1,5 @@
 -- `transact::walk::hold_back` meets its contract: what is held in the end, of the pages after the one at hand, is what the whole holds.
 -- Assumes nothing.
--- what the step of a turn says
 use mathlib.Core.Path.{◌≡◌}
 use mathlib.Core.Bool.{true}
 use lib.ListN.{length}

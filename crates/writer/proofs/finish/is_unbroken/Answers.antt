@@ -1,6 +1,5 @@
 -- `writer::finish::is_unbroken` meets its contract: what the rest of the walk says is what the whole says.
 -- Assumes nothing.
--- what is said from the first page's place is said from the page
 use mathlib.Core.Path.{◌≡◌, refl, sym, ap, ◌∙◌}
 use Rattle.chain.specs.declared.Kind.TheVariants.{Stays, Reaches, Breaks}
 use Rattle.chain.specs.Steps.{read_at}
@@ -12,6 +11,7 @@ use Rattle.writer.proofs.Backs.{back_wide, back_stays, back_breaks, back_few, un
 use Rattle.writer.proofs.finish.is_unbroken.Goals as goal
 use Rattle.writer.proofs.finish.is_unbroken.Goals.{At-loop-left}
 
+-- what is said from the first page's place is said from the page
 whole : (l : At-loop-left)
     → let a = l.args in
     unbroken (back_from a.count (read_at a.image.now) l.loop-left.left (wide l.loop-left.here)) ≡ unbroken (back_from a.count (read_at a.image.now) a.n a.p)

@@ -1,6 +1,5 @@
 -- `writer::finish::is_unbroken` meets its contract: what the rest of the walk says is what the whole says.
 -- Assumes nothing.
--- what is said from the first page's place is said from the page
 use mathlib.Core.Path.{◌≡◌}
 use Rattle.chain.specs.Steps.{read_at}
 use Rattle.chain.specs.Back.{wide}
