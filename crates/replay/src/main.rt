@@ -68,7 +68,14 @@ fn turn<R: Read>(
     out: &mut [u8],
     run: Run,
 ) -> io::Result<Run> {
-    let got = input::next_line(input, chunk, line, run.feed)?;
+    let got = match input::next_line(input, chunk, line, run.feed) {
+        Ok(got) => got,
+        Err(why) => {
+            // what is held is answered all the same
+            flush(rt, out, run.at, true)?;
+            return Err(why);
+        }
+    };
     let text = runs::part_of(line, 0, got.length);
     let done = answers::answer::answer(image, map, text, bytes, out, run.at, run.world);
     let feed = got.feed;

