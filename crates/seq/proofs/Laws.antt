@@ -3,33 +3,72 @@ use mathlib.Core.Path.{◌≡◌, refl, sym, ap, ◌∙◌}
 use mathlib.Core.Logic.Iff
 use mathlib.Core.Logic.{◌↔◌, inl, inr}
 use mathlib.Core.Bool.{Bool, true, false, cond}
-use Prim.Native.Nat.{ℕ, zero, suc, ◌+◌, ◌-◌, ◌*◌, ◌^◌, ◌≤◌, ◌<◌}
+use Prim.Native.Nat.{ℕ, zero, suc, ◌+◌, ◌-◌, ◌*◌, ◌^◌, ◌≤◌, ◌<◌, min}
 use native.Mathlib.Nat.{le_antisymm, lt_of_not-le, pow-succ', eq-or-lt_of_le, sub-add_cancel}
 use native.Mathlib.Omega.{arith}
 use borrow.Author.Tests.{lt-ltb}
 use lib.Dec.{T, leb, ltb, eqb, leb→le, le→leb, eqb→eq}
 use lib.Bits.{bit_xor}
 use lib.Pow.{pow_pos, pow-add}
-use Rattle.seq.specs.declared.numbers.Answer.{Answer}
-use Rattle.seq.specs.declared.numbers.Answer.TheVariants.{Number, Range, SeqEnd}
-use Rattle.seq.specs.Seq.{Reply, number, refused, reply, TopBit, Holds, below, greatest, zeros, index, level, span, shift}
+use Rattle.std.specs.Prelude.{Result, Ok, Err}
+use Rattle.seq.specs.declared.numbers.SeqError.{SeqError}
+use Rattle.seq.specs.declared.numbers.SeqError.TheVariants.{Range, SeqEnd}
+use Rattle.std.specs.Result.{result_unwrap_or}
+use Rattle.seq.specs.Seq.{Reply, number, refused, reply, zeros_says, index_says, TopBit, Holds, below, greatest, zeros, index, level, span, shift}
 use Rattle.seq.proofs.Top.{top_holds}
 use Rattle.seq.proofs.Multiples.{holds_iff, holds_factor, holds_double, none_short, greatest_le, greatest_passes, greatest_reaches}
 
 -- ---- answers
 
 -- an answer's numbers lose nothing: it can be read back from them
-abbrev answer_in : Reply → Answer
-answer_in (number n) = Number n
-answer_in (refused k) = cond (eqb k 12) Range SeqEnd
+abbrev answer_in : Reply → Result ℕ SeqError
+answer_in (number n) = Ok n
+answer_in (refused k) = Err (cond (eqb k 12) Range SeqEnd)
 
-answer_back : (a : Answer) → answer_in (reply a) ≡ a
-answer_back (Number n) = refl
-answer_back Range = refl
-answer_back SeqEnd = refl
+answer_back : (a : Result ℕ SeqError) → answer_in (reply a) ≡ a
+answer_back (Ok n) = refl
+answer_back (Err Range) = refl
+answer_back (Err SeqEnd) = refl
 
-pub reply_same : (a b : Answer) → reply a ≡ reply b → a ≡ b
+pub reply_same : (a b : Result ℕ SeqError) → reply a ≡ reply b → a ≡ b
 reply_same a b e = sym (answer_back a) ∙ ap answer_in e ∙ answer_back b
+
+abbrev number_in : Reply → ℕ
+number_in (number n) = n
+number_in (refused k) = 0
+
+abbrev is_number : Reply → Bool
+is_number (number n) = true
+is_number (refused k) = false
+
+refused_no : (n k : ℕ) → number n ≡ refused k → ⊥
+refused_no n k e = cc
+
+-- ---- answers made of other answers
+
+-- the index, from the answer that has the zeros
+pub index_by : (a b n : ℕ) → number n ≡ zeros_says a b → number (min 8 (n - 7)) ≡ index_says a b
+unfolding index
+index_by a b n = by (ltb a b) where
+  by : (t : Bool) → number n ≡ cond t (number (zeros a b)) (refused 12) → number (min 8 (n - 7)) ≡ cond t (number (min 8 (zeros a b - 7))) (refused 12)
+  by true e = ap (λ r. number (min 8 (number_in r - 7))) e
+  by false e = elim (refused_no n 12 e) [ ]
+
+-- and the level, from the answer that has the index
+pub level_by : (a b : ℕ) (r : Result ℕ SeqError) → reply r ≡ index_says a b → result_unwrap_or r 0 ≡ level a b
+unfolding index level
+level_by a b (Ok n) = by (ltb a b) where
+  by : (t : Bool) → number n ≡ cond t (number (min 8 (zeros a b - 7))) (refused 12) → n ≡ cond t (min 8 (zeros a b - 7)) 0
+  by true e = ap number_in e
+  by false e = elim (refused_no n 12 e) [ ]
+level_by a b (Err x) = by (ltb a b) (refused_by x) where
+  refused_by : (x : SeqError) → (k : ℕ) × (reply (Err x) ≡ refused k)
+  refused_by Range = (12, refl)
+  refused_by SeqEnd = (9, refl)
+
+  by : (t : Bool) → (k : ℕ) × (reply (Err x) ≡ refused k) → reply (Err x) ≡ cond t (number (min 8 (zeros a b - 7))) (refused 12) → 0 ≡ cond t (min 8 (zeros a b - 7)) 0
+  by true (k, s) e = elim (refused_no (min 8 (zeros a b - 7)) k (sym e ∙ s)) [ ]
+  by false p e = refl
 
 -- ---- trailing zeros
 

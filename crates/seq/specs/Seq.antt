@@ -1,18 +1,18 @@
 -- Sequence numbers and the skip list's arithmetic, by document 01, "Numbers" and leaf 2, said in multiples and not in bits;
 -- `zeros_top` of proofs/Laws says the bits. Assumes nothing: these are definitions.
-use Rattle.std.specs.Prelude.{ℕ, zero, suc, min, ◌+◌, ◌-◌, ◌*◌, ◌/◌, ◌%◌, ◌^◌, ◌≤◌, ◌<◌, Bool, cond, List, [], ◌∷◌, leb, ltb, eqb, get_or}
-use Rattle.seq.specs.declared.numbers.Answer.{Answer}
-use Rattle.seq.specs.declared.numbers.Answer.TheVariants.{Number, Range, SeqEnd}
+use Rattle.std.specs.Prelude.{ℕ, zero, suc, min, ◌+◌, ◌-◌, ◌*◌, ◌/◌, ◌%◌, ◌^◌, ◌≤◌, ◌<◌, Bool, cond, Result, Ok, Err, List, [], ◌∷◌, leb, ltb, eqb, get_or}
+use Rattle.seq.specs.declared.numbers.SeqError.{SeqError}
+use Rattle.seq.specs.declared.numbers.SeqError.TheVariants.{Range, SeqEnd}
 
 -- a number, or a refusal by document 01's number
 pub data Reply : Type 0 where
   number : ℕ → Reply
   refused : ℕ → Reply
 
-abbrev pub reply : Answer → Reply
-reply (Number n) = number n
-reply Range = refused 12
-reply SeqEnd = refused 9
+abbrev pub reply : Result ℕ SeqError → Reply
+reply (Ok n) = number n
+reply (Err Range) = refused 12
+reply (Err SeqEnd) = refused 9
 
 -- what a sequence number never passes
 abbrev pub limit : ℕ

@@ -5,22 +5,15 @@ ghost use Rattle.seq.specs.Ids.{none, page_of, raw_of, option_of};
 // The raw id that means none.
 pub const NONE: u16 = 65535;
 
-#[derive(Clone, Copy)]
+#[derive(Clone, Copy, Debug, PartialEq, Eq)]
 pub struct PageID {
     pub raw: u16,
 }
 
-// A page or none, as two bytes hold it.
-#[derive(Clone, Copy)]
+// A page or none, as two bytes hold it: the form in which headers and C have it.
+#[derive(Clone, Copy, Debug, PartialEq, Eq)]
 pub struct OptionPageID {
     pub raw: u16,
-}
-
-// Rust's Option<PageID>.
-#[derive(Clone, Copy)]
-pub enum PageOption {
-    Some(PageID),
-    None,
 }
 
 impl PageID {
@@ -31,19 +24,19 @@ impl PageID {
     }
 
     // The page of a raw id, which none is not.
-    pub fn from_raw(raw: u16) -> PageOption
+    pub fn from_raw(raw: u16) -> Option<Self>
         ensures { result ≡ option_of raw }
     {
         if raw == NONE {
-            return PageOption::None;
+            return None;
         }
-        PageOption::Some(PageID { raw })
+        Some(PageID { raw })
     }
 
     pub fn index(self) -> usize
         ensures { result ≡ self.raw }
     {
-        self.raw as usize
+        usize::from(self.raw)
     }
 }
 
@@ -52,12 +45,6 @@ impl OptionPageID {
         ensures { result.raw ≡ none }
     {
         OptionPageID { raw: NONE }
-    }
-
-    pub fn some(page: PageID) -> Self
-        ensures { result.raw ≡ page.raw }
-    {
-        OptionPageID { raw: page.raw }
     }
 
     pub fn from_raw(raw: u16) -> Self
@@ -72,16 +59,7 @@ impl OptionPageID {
         self.raw
     }
 
-    pub fn from_option(o: PageOption) -> Self
-        ensures { result.raw ≡ raw_of o }
-    {
-        match o {
-            PageOption::Some(p) => OptionPageID { raw: p.raw },
-            PageOption::None => OptionPageID { raw: NONE },
-        }
-    }
-
-    pub fn into_option(self) -> PageOption
+    pub fn into_option(self) -> Option<PageID>
         ensures { result ≡ option_of self.raw }
     {
         PageID::from_raw(self.raw)
@@ -97,5 +75,24 @@ impl OptionPageID {
         ensures { result ≡ eqb self.raw none }
     {
         self.raw == NONE
+    }
+}
+
+impl From<PageID> for OptionPageID {
+    ghost from_gives = { λ page result. result.raw ≡ page.raw };
+
+    fn from(page: PageID) -> Self {
+        OptionPageID { raw: page.raw }
+    }
+}
+
+impl From<Option<PageID>> for OptionPageID {
+    ghost from_gives = { λ page result. result.raw ≡ raw_of page };
+
+    fn from(page: Option<PageID>) -> Self {
+        match page {
+            Some(page) => OptionPageID { raw: page.raw },
+            None => OptionPageID { raw: NONE },
+        }
     }
 }

