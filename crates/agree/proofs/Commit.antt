@@ -1,15 +1,14 @@
 -- Commit keeps the invariant, and what it commits is the table on the pages as they stand. Assumes nothing.
+use Rattle.std.specs.Prelude.{Option, Some, None, Err}
+use Rattle.state.specs.Refusals.{Done, fine}
 use Rattle.agree.proofs.Seen.{sees_on}
 use Rattle.agree.proofs.Keeps.{known}
 use Rattle.seq.specs.Ids as ids
 use mathlib.Core.Bool.{and-eq-true_iff}
 use Rattle.state.specs.World.{World, Outcome, ended, refuse}
-use Rattle.map.specs.declared.Alloc.TheVariants.{Page}
 use Rattle.map.specs.Map.{alloc_of, released, used}
 use Rattle.map.proofs.Laws.{beyond_inside}
 use Rattle.page.specs.Store as stores
-use Rattle.metalog.specs.declared.LogEnd.{LogEnd}
-use Rattle.metalog.specs.declared.LogEnd.TheVariants.{At, Damaged as NoLog}
 use Rattle.metalog.specs.Log.{adds, fresh, log_end, rest_erased, fits}
 use Rattle.metalog.specs.Batch.{batch_stores, new_meta_stores, marked, Fit}
 use Rattle.metalog.proofs.Table.{Typed, chosen_fit, chosen_sounds, adds_good, append_replay, new_replay, end_reads, replay_typed}
@@ -33,10 +32,6 @@ use Rattle.metalog.specs.declared.Replay.{Replay}
 use Rattle.state.specs.declared.types.FileRecord.{FileRecord}
 use Rattle.state.specs.declared.types.State.{State}
 use Rattle.state.specs.declared.types.Refusal.{Refusal}
-use Rattle.state.specs.declared.types.Done.{Done}
-use Rattle.state.specs.declared.types.Done.TheVariants.{Done as Fine, Refused}
-use Rattle.map.specs.declared.Alloc.{Alloc}
-use Rattle.map.specs.declared.Alloc.TheVariants.{Full}
 use Rattle.agree.specs.Good.{RecordOk, Good}
 use Rattle.agree.specs.Rules.{ChainOf}
 use Rattle.agree.specs.View.{view, Mapped, as_file, rec_at, now_of}
@@ -61,12 +56,12 @@ use Rattle.state.specs.Values.{is_empty, closed, with_cursor, with_meta}
 -- what a commit leaves: known, and, where it succeeds, the files' pages are those of before
 pub record Commits (D : Type 0) (N : ℕ) (w : World) (o : Outcome Done) : Type 0 where
   pub known : Keeps D N w o
-  pub same : o.answer ≡ Fine → known.base.cont ≡ view w.image
+  pub same : o.answer ≡ fine → known.base.cont ≡ view w.image
   pub table : o.table ≡ w.table
   pub count : o.state.page_count ≡ w.state.page_count
-  pub closes : o.answer ≡ Fine → o.state.transaction ≡ false
-  pub idle : o.answer ≡ Fine → o.state.writer.active ≡ false
-  pub stays : (why : Refusal) → o.answer ≡ Refused why → (ended w o).world ≡ w
+  pub closes : o.answer ≡ fine → o.state.transaction ≡ false
+  pub idle : o.answer ≡ fine → o.state.writer.active ≡ false
+  pub stays : (why : Refusal) → o.answer ≡ Err why → (ended w o).world ≡ w
 
 closed_writer : (s : State) → (closed s).writer ≡ s.writer
 unfolding closed
@@ -169,7 +164,7 @@ module _ {D : Type 0} {N : ℕ} {w : World} {b : Base} {own : ℕ → Owner} (g 
             ∙ sym (chosen_off b.pc (files_of w.table) (map (λ (f : FileRecord). f.dirty) w.table.files) g.inv.mounted.log i (mark ∙ e))
 
     -- a batch appended
-    append_keeps : (e : ℕ) → log_end w.image w.state.meta_page ≡ At e → fits e (length (dirty_files w.table)) ≡ true → rest_erased w.image w.state.meta_page e ≡ true
+    append_keeps : (e : ℕ) → log_end w.image w.state.meta_page ≡ Some e → fits e (length (dirty_files w.table)) ≡ true → rest_erased w.image w.state.meta_page e ≡ true
         → Commits D N w (calls.committed w (batch_stores w.state.meta_page e (dirty_files w.table)))
     unfolding closed
     append_keeps e h f r =
@@ -221,9 +216,9 @@ module _ {D : Type 0} {N : ℕ} {w : World} {b : Base} {own : ℕ → Owner} (g 
         change : Change (view w.image) (view (ran w.image (batch_stores w.state.meta_page e (dirty_files w.table)))) b.mp (met b.mseq b.pc (adds b.pc g.inv.mounted.log (dirty_files w.table)))
         change =
             subst (λ (p : ℕ). Change (view w.image) (view (ran w.image (batch_stores p e (dirty_files w.table)))) b.mp (met b.mseq b.pc (adds b.pc g.inv.mounted.log (dirty_files w.table)))) (sym g.sees.mp)
-            (appended (subst (λ (p : ℕ). log_end w.image p ≡ At e) g.sees.mp h) (subst (λ (p : ℕ). rest_erased w.image p e ≡ true) g.sees.mp r))
+            (appended (subst (λ (p : ℕ). log_end w.image p ≡ Some e) g.sees.mp h) (subst (λ (p : ℕ). rest_erased w.image p e ≡ true) g.sees.mp r))
           where
-            appended : log_end w.image b.mp ≡ At e → rest_erased w.image b.mp e ≡ true
+            appended : log_end w.image b.mp ≡ Some e → rest_erased w.image b.mp e ≡ true
                 → Change (view w.image) (view (ran w.image (batch_stores b.mp e (dirty_files w.table)))) b.mp (met b.mseq b.pc (adds b.pc g.inv.mounted.log (dirty_files w.table)))
             appended h r =
                 let img' = ran w.image (batch_stores b.mp e (dirty_files w.table)) in
@@ -271,7 +266,7 @@ module _ {D : Type 0} {N : ℕ} {w : World} {b : Base} {own : ℕ → Owner} (g 
     abbrev header : MetaHeader
     header = record { page_count = w.state.page_count; seq = w.state.meta_seq + 1 }
 
-    move_keeps : (p : ℕ) → alloc_of w.map w.state.page_count w.state.cursor ≡ Page p → ¬ (w.state.meta_seq ≡ 4294967295) → Commits D N w (calls.moved_to w (Page p))
+    move_keeps : (p : ℕ) → alloc_of w.map w.state.page_count w.state.cursor ≡ Some p → ¬ (w.state.meta_seq ≡ 4294967295) → Commits D N w (calls.moved_to w (Some p))
     unfolding closed with_cursor with_meta
     move_keeps p z top =
         let s = g.sees in
@@ -358,9 +353,9 @@ module _ {D : Type 0} {N : ℕ} {w : World} {b : Base} {own : ℕ → Owner} (g 
         cond_by (Commits D N w) (eqb w.state.meta_seq 4294967295) _ _ (λ e. refused SeqEnd)
         (λ e. by (alloc_of w.map w.state.page_count w.state.cursor) refl (eqb-false w.state.meta_seq 4294967295 e))
       where
-        by : (a : Alloc) → alloc_of w.map w.state.page_count w.state.cursor ≡ a → ¬ (w.state.meta_seq ≡ 4294967295) → Commits D N w (calls.moved_to w a)
-        by Full z top = refused NoRoom
-        by (Page p) z top = move_keeps p z top
+        by : (a : Option ℕ) → alloc_of w.map w.state.page_count w.state.cursor ≡ a → ¬ (w.state.meta_seq ≡ 4294967295) → Commits D N w (calls.moved_to w a)
+        by None z top = refused NoRoom
+        by (Some p) z top = move_keeps p z top
 
     batch_keeps : Commits D N w (commit_batch w (dirty_files w.table))
     unfolding commit_batch
@@ -368,9 +363,9 @@ module _ {D : Type 0} {N : ℕ} {w : World} {b : Base} {own : ℕ → Owner} (g 
         cond_by (Commits D N w) (eqb (length (dirty_files w.table)) 0) _ _ (λ e. none_keeps (eqb-true (length (dirty_files w.table)) 0 e))
         (λ e. by (log_end w.image w.state.meta_page) refl)
       where
-        by : (x : LogEnd) → log_end w.image w.state.meta_page ≡ x → Commits D N w (appended_at w (dirty_files w.table) x)
-        by NoLog h = refused Damaged
-        by (At e) h =
+        by : (x : Option ℕ) → log_end w.image w.state.meta_page ≡ x → Commits D N w (appended_at w (dirty_files w.table) x)
+        by None h = refused Damaged
+        by (Some e) h =
             cond_by (Commits D N w) (fits e (length (dirty_files w.table)) && rest_erased w.image w.state.meta_page e) _ _
             (λ t. let u = (and-eq-true_iff (fits e (length (dirty_files w.table))) (rest_erased w.image w.state.meta_page e)).0 t in append_keeps e h u.0 u.1) (λ t. moved_keeps)
 

@@ -1,4 +1,5 @@
 -- A world in which the invariant holds counts as mounted. Assumes nothing.
+use Rattle.state.specs.Refusals.{fine}
 use Rattle.seq.specs.Ids.{none}
 use Rattle.seq.specs.Seq as SeqSpecs
 use Rattle.state.specs.World.{World}
@@ -13,7 +14,6 @@ use native.Mathlib.Decide.{ℕ_discrete}
 use lib.ListN.{length}
 use lib.Dec.{eqb}
 use borrow.Author.Tests.{eq-eqb, le-leb, lt-ltb, le-ltb}
-use Rattle.state.specs.declared.types.Done.TheVariants.{Done as Fine}
 use Rattle.agree.specs.Good.{Good}
 use Rattle.agree.specs.View.{rec_at}
 use Rattle.agree.proofs.Finish.{copied_in}
@@ -115,7 +115,7 @@ module _ {D : Type 0} {N : ℕ} {w : World} {b : Base} {own : ℕ → Owner} (g 
       )
 
   -- so checks 1 to 4 pass for whatever is not busy
-  pub good_checks : (i : ℕ) → i ≤ 7 → checks (length w.image) (length w.map) w.state false i ≡ Fine
+  pub good_checks : (i : ℕ) → i ≤ 7 → checks (length w.image) (length w.map) w.state false i ≡ fine
   unfolding checks wrong_size sizes
   good_checks i h =
       let s = g.sees in

@@ -1,4 +1,5 @@
 -- Format of any image of bytes starts the invariant. Assumes nothing.
+use Rattle.std.specs.Prelude.{Option, Some, None}
 use Rattle.state.specs.Values.{settled}
 use native.Mathlib.Nat.{mod-lt}
 use Rattle.state.specs.World.{World, ended}
@@ -22,8 +23,6 @@ use lib.ListN.{length, drop, get_or, replicate, get_or-eq_default, get_or-replic
 use lib.Dec.{eqb}
 use borrow.Author.Tests.{eq-eqb}
 use Rattle.page.specs.declared.MetaHeader.{MetaHeader}
-use Rattle.page.specs.declared.MetaRead.{MetaRead}
-use Rattle.page.specs.declared.MetaRead.TheVariants.{Found, Missing}
 use Rattle.metalog.specs.declared.Replay.{Replay}
 use Rattle.state.specs.declared.types.FileRecord.{FileRecord}
 use Rattle.agree.specs.Good.{RecordOk, Known}
@@ -51,9 +50,9 @@ use Rattle.state.specs.Values.{empty_record, empty_table, no_writer}
 module _ (img : List ℕ) (p : ℕ) where
   -- ---- the erasures
 
-  if_on : (n : ℕ) (m : MetaRead) → Every (On n) (erased_if p n m)
-  if_on n (Found m) = (refl, tt)
-  if_on n Missing = cond_by (Every (On n)) (eqb n p) (erase n ∷ []) [] (λ e. (refl, tt)) (λ e. tt)
+  if_on : (n : ℕ) (m : Option MetaHeader) → Every (On n) (erased_if p n m)
+  if_on n (Some m) = (refl, tt)
+  if_on n None = cond_by (Every (On n)) (eqb n p) (erase n ∷ []) [] (λ e. (refl, tt)) (λ e. tt)
 
   on_off : (x n : ℕ) → ¬ (x ≡ n) → (s : Store) → On n s → Off x s
   on_off x n k s o z = k (z ∙ o)
@@ -73,9 +72,9 @@ module _ (img : List ℕ) (p : ℕ) where
       ff : Bytes (replicate 256 255)
       ff = bytes_replicate 256 255 (omega arith)
 
-      by : (m : MetaRead) → Every OfBytes (erased_if p n m)
-      by (Found m) = (ff, tt)
-      by Missing = cond_by (Every OfBytes) (eqb n p) (erase n ∷ []) [] (λ e. (ff, tt)) (λ e. tt)
+      by : (m : Option MetaHeader) → Every OfBytes (erased_if p n m)
+      by (Some m) = (ff, tt)
+      by None = cond_by (Every OfBytes) (eqb n p) (erase n ∷ []) [] (λ e. (ff, tt)) (λ e. tt)
 
   -- a page stands as it was until its turn
   erase_before : (n : ℕ) → page_of (ran img (erasures img p n)) n ≡ page_of img n
@@ -89,21 +88,21 @@ module _ (img : List ℕ) (p : ℕ) where
   one_off n x k = one_more n x ∙ others (ran img (erasures img p n)) n (erased_if p n (meta_of (page_of img n))) (if_on n (meta_of (page_of img n))) x k
 
   -- no metadata is left
-  erase_meta : (n x : ℕ) → x < n → meta_of (page_of (ran img (erasures img p n)) x) ≡ Missing
+  erase_meta : (n x : ℕ) → x < n → meta_of (page_of (ran img (erasures img p n)) x) ≡ None
   erase_meta zero x h = absurd (omega arith)
   erase_meta (suc n) x h = go (ℕ_discrete x n) (λ k. erase_meta n x k)
     where
       t : List ℕ
       t = ran img (erasures img p n)
 
-      at : (m : MetaRead) → meta_of (page_of img n) ≡ m → meta_of (page_of (ran (ran img (erasures img p n)) (erased_if p n m)) n) ≡ Missing
-      at (Found m) e = erased_meta (ran img (erasures img p n)) n
-      at Missing e =
-          cond_by (λ (l : List Store). meta_of (page_of (ran (ran img (erasures img p n)) l) n) ≡ Missing) (eqb n p) (erase n ∷ []) []
+      at : (m : Option MetaHeader) → meta_of (page_of img n) ≡ m → meta_of (page_of (ran (ran img (erasures img p n)) (erased_if p n m)) n) ≡ None
+      at (Some m) e = erased_meta (ran img (erasures img p n)) n
+      at None e =
+          cond_by (λ (l : List Store). meta_of (page_of (ran (ran img (erasures img p n)) l) n) ≡ None) (eqb n p) (erase n ∷ []) []
           (λ z. erased_meta (ran img (erasures img p n)) n) (λ z. ap meta_of (erase_before n) ∙ e)
 
-      go : Dec (x ≡ n) → (x < n → meta_of (page_of (ran img (erasures img p n)) x) ≡ Missing) → meta_of (page_of (ran img (erasures img p (suc n))) x) ≡ Missing
-      go (yes z) f = subst (λ (y : ℕ). meta_of (page_of (ran img (erasures img p (suc n))) y) ≡ Missing) (sym z) (ap meta_of (one_more n n) ∙ at (meta_of (page_of img n)) refl)
+      go : Dec (x ≡ n) → (x < n → meta_of (page_of (ran img (erasures img p n)) x) ≡ None) → meta_of (page_of (ran img (erasures img p (suc n))) x) ≡ None
+      go (yes z) f = subst (λ (y : ℕ). meta_of (page_of (ran img (erasures img p (suc n))) y) ≡ None) (sym z) (ap meta_of (one_more n n) ∙ at (meta_of (page_of img n)) refl)
       go (no k) f = ap meta_of (one_off n x k) ∙ f (omega arith)
 
   -- page p is erased
@@ -114,9 +113,9 @@ module _ (img : List ℕ) (p : ℕ) where
       in_n : p < length (ran img (erasures img p n)) / 256
       in_n = rw (ran_length img (erasures img p n)) i
 
-      at : p ≡ n → (m : MetaRead) → page_of (ran (ran img (erasures img p n)) (erased_if p n m)) p ≡ replicate 256 255
-      at z (Found m) = subst (λ (y : ℕ). page_of (stored (ran img (erasures img p n)) (erase y)) p ≡ replicate 256 255) z (erased_page (ran img (erasures img p n)) p in_n)
-      at z Missing =
+      at : p ≡ n → (m : Option MetaHeader) → page_of (ran (ran img (erasures img p n)) (erased_if p n m)) p ≡ replicate 256 255
+      at z (Some m) = subst (λ (y : ℕ). page_of (stored (ran img (erasures img p n)) (erase y)) p ≡ replicate 256 255) z (erased_page (ran img (erasures img p n)) p in_n)
+      at z None =
           rw (eq-eqb n p (sym z)) (subst (λ (y : ℕ). page_of (stored (ran img (erasures img p n)) (erase y)) p ≡ replicate 256 255) z (erased_page (ran img (erasures img p n)) p in_n))
 
       go : Dec (p ≡ n) → (p < n → page_of (ran img (erasures img p n)) p ≡ replicate 256 255) → page_of (ran img (erasures img p (suc n))) p ≡ replicate 256 255
@@ -177,9 +176,9 @@ module _ (img : List ℕ) (n p : ℕ) (h : p < n) (size : length img ≡ 256 * n
       data_not pg unreadable = tt
       data_not pg (readable d) = tt
 
-      by : (y : MetaRead) → y ≡ Missing → NotMeta (seen_by img₂ x y)
-      by (Found d) e = clash cc
-      by Missing e = data_not (page_of img₂ x) (header_of (page_of img₂ x))
+      by : (y : Option MetaHeader) → y ≡ None → NotMeta (seen_by img₂ x y)
+      by (Some d) e = clash cc
+      by None e = data_not (page_of img₂ x) (header_of (page_of img₂ x))
 
   pub format_mounted : Mounted n (view img₂) (base_of (view img₂) p 1 n (start_part n p))
   format_mounted =

@@ -1,4 +1,5 @@
 -- While nothing is mounted every call but format and mount leaves the world as it was. Assumes nothing.
+use Rattle.std.specs.Prelude.{Err}
 use Rattle.state.specs.declared.types.Refusal.TheVariants.{BadSize, NotMounted, Busy, BadFile}
 use Rattle.state.specs.World.{World, Outcome, ended, checked}
 use Rattle.writer.specs.Open as OpenCalls
@@ -17,10 +18,9 @@ use mathlib.Core.List.{List}
 use lib.ListN.{length}
 use lib.Dec.{ltb}
 use Rattle.state.specs.declared.types.Refusal.{Refusal}
-use Rattle.state.specs.declared.types.Done.TheVariants.{Done as Fine, Refused}
 use Rattle.agree.proofs.Pages.{clash}
 use Rattle.state.specs.Checks.{is_mounted, wrong_size, checks}
-use Rattle.state.specs.Refusals.{on_done}
+use Rattle.state.specs.Refusals.{on_done, fine}
 
 abbrev pub Stays : {A : Type 0} → World → Outcome A → Type 0
 Stays w o = (ended w o).world ≡ w
@@ -30,7 +30,7 @@ pub checked_off : {A : Type 0} (P : A → Type 0) (w : World) (busy : Bool) (k :
 unfolding checks
 checked_off P w busy k no_go go e f = by (wrong_size (length w.image) (length w.map) (is_mounted w.state) w.state.pages) (is_mounted w.state) e
   where
-    by : (a m : Bool) → m ≡ false → P (on_done (cond a (Refused BadSize) (cond m (cond busy (Refused Busy) (cond (ltb 7 k) (Refused BadFile) Fine)) (Refused NotMounted))) no_go go)
+    by : (a m : Bool) → m ≡ false → P (on_done (cond a (Err BadSize) (cond m (cond busy (Err Busy) (cond (ltb 7 k) (Err BadFile) fine)) (Err NotMounted))) no_go go)
     by true m e = f BadSize
     by false true e = clash cc
     by false false e = f NotMounted

@@ -1,5 +1,6 @@
 -- A call keeps the invariant: what all calls share, and the calls that store nothing and move no page: search, record end, flags, rename.
 -- Assumes nothing.
+use Rattle.std.specs.Prelude.{Ok, Err}
 use Rattle.seq.specs.Ids.{none}
 use Rattle.seq.specs.Seq as SeqSpecs
 use Rattle.state.specs.declared.types.Refusal.{Refusal}
@@ -26,8 +27,6 @@ use lib.Dec.{ltb, eqb}
 use borrow.Author.Tests.{eq-eqb, ne_eqb, lt-ltb, eqb-false, ltb-false}
 use Rattle.state.specs.declared.types.FileRecord.{FileRecord}
 use Rattle.state.specs.declared.types.Table.{Table}
-use Rattle.state.specs.declared.types.Done.{Done}
-use Rattle.state.specs.declared.types.Done.TheVariants.{Done as Fine, Refused}
 use Rattle.agree.specs.Good.{RecordOk, SearchIs, Good, Known}
 use Rattle.agree.specs.Rules.{ChainOf, staged_page}
 use Rattle.agree.specs.View.{view, code, Mapped, as_file, rec_at, staged_by, writer_by, as_writer, now_of}
@@ -42,7 +41,7 @@ use Rattle.owners.specs.State.{link_of, Base, Writer, shut, ready, staging, Writ
 use Rattle.owners.specs.Store.{pick, File, Owner, free, held, meta, writer, outside, file}
 use Rattle.owners.proofs.Tables.{pick_yes, pick_no, inv_flags, inv_touch, inv_rename}
 use Rattle.state.specs.Checks.{checks}
-use Rattle.state.specs.Refusals.{on_done}
+use Rattle.state.specs.Refusals.{on_done, Done, fine}
 use Rattle.state.specs.Values.{file_at, with_file, is_empty, in_shape, flagged, with_flags, no_search, opened, with_writer, with_search}
 use Rattle.state.proofs.Laws.{OpenSearch, search_says, Passed, checks_pass}
 use Rattle.chain.specs.Steps.{read_at}
@@ -62,8 +61,8 @@ pub checked_by : {A : Type 0} (P : A → Type 0) (w : World) (busy : Bool) (k : 
 checked_by P w busy k no_go go f g = by (checks (length w.image) (length w.map) w.state busy k) refl
   where
     by : (d : Done) → checks (length w.image) (length w.map) w.state busy k ≡ d → P (on_done d no_go go)
-    by (Refused why) e = f why
-    by Fine e = g (checks_pass (length w.image) (length w.map) w.state busy k e)
+    by (Err why) e = f why
+    by (Ok u) e = g (checks_pass (length w.image) (length w.map) w.state busy k e)
 
 -- ---- the writer
 
@@ -154,7 +153,7 @@ module _ {D : Type 0} {N : ℕ} {w : World} {b : Base} {own : ℕ → Owner} (g 
   pub table_keeps : w.state.writer.active ≡ false → (t : Table) (m : List ℕ) (own' : ℕ → Owner) → length t.files ≡ 8 → ((i : ℕ) → RecordOk w.image (rec_at t i))
       → Mapped m N own' → Inv N (view w.image) b (record { tab = λ i. as_file (rec_at t i); own = own'; dirty = λ i. (rec_at t i).dirty; tx = true; wr = shut })
       → (D → (i : ℕ) → ChainOf w.image b.pc (as_file (rec_at t i)))
-      → Keeps D N w (record { answer = Fine; stores = []; map = m; table = t; state = opened w.state })
+      → Keeps D N w (record { answer = fine; stores = []; map = m; table = t; state = opened w.state })
   unfolding opened
   table_keeps off t m own' eight recs mapped v rules =
       let s = g.sees in
@@ -335,7 +334,7 @@ module _ {D : Type 0} {N : ℕ} {w : World} {b : Base} {own : ℕ → Owner} (g 
       checked_by (Keeps D N w) w false 0 _ _ (λ why. known)
       (λ h. cond_by (Keeps D N w) w.state.writer.active _ _ (λ e. ended_keeps e) (λ e. known))
     where
-      ended_keeps : w.state.writer.active ≡ true → Keeps D N w (record { answer = Fine; stores = []; map = w.map; table = w.table; state = with_writer w.state (record_ended w.state.writer) })
+      ended_keeps : w.state.writer.active ≡ true → Keeps D N w (record { answer = fine; stores = []; map = w.map; table = w.table; state = with_writer w.state (record_ended w.state.writer) })
       ended_keeps e =
           let s = g.sees in
           let x = w.state.writer in

@@ -1,4 +1,5 @@
 -- What mount is made of: the scan for the best metadata page, the replay's last pages, and the claim of a walk's pages. Assumes nothing.
+use Rattle.std.specs.Prelude.{Option, Some, None}
 use Rattle.seq.specs.Ids as ids
 use mathlib.Core.Bool.{and-eq-true_iff}
 use Rattle.metalog.specs.Log.{adds, add, put, put_in, fresh, sound}
@@ -20,8 +21,6 @@ use lib.Seq.{get_or-set_same, get_or-set_other}
 use lib.Dec.{ltb, eqb}
 use borrow.Author.Tests.{eq-eqb, eqb-true, ltb-true, ltb-false}
 use Rattle.page.specs.declared.MetaHeader.{MetaHeader}
-use Rattle.page.specs.declared.MetaRead.{MetaRead}
-use Rattle.page.specs.declared.MetaRead.TheVariants.{Found, Missing}
 use Rattle.metalog.specs.declared.Entry.{Entry}
 use Rattle.metalog.specs.declared.Files.{Files}
 use Rattle.metalog.specs.declared.Replay.{Replay}
@@ -59,7 +58,7 @@ scan_ok img (suc n) = by (meta_of (page_of img n)) refl (scan img n) (scan_ok im
         go p q c r h e (yes z) = (f q c r (ap (view img) (sym z) ∙ e), λ y k. let u = s.here (omega arith) in omega (arith, u.1))
         go p q c r h e (no z) = s.low p q c r (omega arith) e
 
-    new : (m : MetaHeader) → meta_of (page_of img n) ≡ Found m → (b : Best) → Scanned img n b → b.seq < m.seq → Scanned img (suc n) (best_of n m)
+    new : (m : MetaHeader) → meta_of (page_of img n) ≡ Some m → (b : Best) → Scanned img n b → b.seq < m.seq → Scanned img (suc n) (best_of n m)
     new m e b s h =
         record {
           low = λ p q c r k z. go p q c r k z (ℕ_discrete p n);
@@ -73,9 +72,9 @@ scan_ok img (suc n) = by (meta_of (page_of img n)) refl (scan img n) (scan_ok im
             (omega arith, λ a o. omega arith)
         go p q c r k z (no y) = let u = s.low p q c r (omega arith) z in (omega (arith, u.0), λ a o. absurd (omega (arith, u.0)))
 
-    by : (y : MetaRead) → meta_of (page_of img n) ≡ y → (b : Best) → Scanned img n b → Scanned img (suc n) (better b n y)
-    by Missing e b s = more b s (λ q c r z. let u = view_meta img n z in clash (cc u.is))
-    by (Found m) e b s =
+    by : (y : Option MetaHeader) → meta_of (page_of img n) ≡ y → (b : Best) → Scanned img n b → Scanned img (suc n) (better b n y)
+    by None e b s = more b s (λ q c r z. let u = view_meta img n z in clash (cc u.is))
+    by (Some m) e b s =
         cond_by (Scanned img (suc n)) (ltb b.seq m.seq) (best_of n m) b (λ t. new m e b s (ltb-true b.seq m.seq t))
         (λ t. more b s (λ q c r z. let u = view_meta img n z in let v : m ≡ u.header = cc u.is in let k : m.seq ≤ b.seq = ltb-false b.seq m.seq t in omega (arith, ap (λ (x : MetaHeader). x.seq) v, u.seq)))
 

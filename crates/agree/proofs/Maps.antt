@@ -1,5 +1,5 @@
 -- What calls do to the map is what they do to the owners. Assumes nothing.
-use Rattle.map.specs.declared.Alloc.TheVariants.{Page}
+use Rattle.std.specs.Prelude.{Some}
 use Rattle.map.specs.Map.{released, alloc_of, unheld, cleared, used}
 use Rattle.map.proofs.Laws as MapLaws
 use Rattle.seq.specs.Ids.{none}
@@ -44,7 +44,7 @@ get_d_any (x ∷ l) (suc i) d e h = get_d_any l i d e (omega arith)
 
 module _ {m : List ℕ} {N : ℕ} {own : ℕ → Owner} (mp : Mapped m N own) where
   -- an allocated page was free
-  pub alloc_free : (count cursor p : ℕ) → cursor ≤ count → alloc_of m count cursor ≡ Page p → (own p ≡ free) × (p < count) × (p < N)
+  pub alloc_free : (count cursor p : ℕ) → cursor ≤ count → alloc_of m count cursor ≡ Some p → (own p ≡ free) × (p < count) × (p < N)
   alloc_free count cursor p h e =
       let f = MapLaws.alloc_found m count cursor h p e in
       let n = mp.size in

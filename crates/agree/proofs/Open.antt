@@ -1,11 +1,11 @@
 -- Opening a writer keeps the invariant. Assumes nothing.
+use Rattle.std.specs.Prelude.{Option, Some, None}
 use Rattle.seq.specs.Ids.{none}
 use Rattle.seq.specs.Seq as SeqSpecs
 use Rattle.state.specs.declared.types.Writer as StateWriter
 use Rattle.state.specs.World.{World}
 use Rattle.runs.specs.Runs.{part, placed, splice}
 use Rattle.runs.proofs.Laws.{length_splice}
-use Rattle.map.specs.declared.Alloc.TheVariants.{Page}
 use Rattle.map.specs.Map.{alloc_of, beyond}
 use Rattle.map.proofs.Laws.{beyond_inside}
 use Rattle.chain.specs.Files as files
@@ -26,8 +26,6 @@ use lib.Dec.{leb, ltb, eqb}
 use borrow.Author.Tests.{ne_eqb, eqb-true, eqb-false, leb-true}
 use Rattle.state.specs.declared.types.FileRecord.{FileRecord}
 use Rattle.chain.specs.declared.PagePointer.{PagePointer}
-use Rattle.map.specs.declared.Alloc.{Alloc}
-use Rattle.map.specs.declared.Alloc.TheVariants.{Full}
 use Rattle.agree.specs.Good.{RecordOk, WriterIs, Good, Known}
 use Rattle.agree.specs.Rules.{Reaches, staged_page, WriterRuled}
 use Rattle.agree.specs.View.{view, Mapped, as_file, rec_at, as_writer, now_of}
@@ -175,10 +173,10 @@ module _ {D : Type 0} {N : ℕ} {w : World} {b : Base} {own : ℕ → Owner} (g 
 
     to_keeps : (q : PagePointer) → link_of q.page_id ≡ next_step (rec i).first_seq (rec i).header.seq (link_of (get_or (rec i).header.skiplist 0 0))
         → ((q.page_id ≡ none → ⊥) → read_at w.image q.page_id ≡ readable q.header)
-        → (D → (p : ℕ) → Reaches w.image b.pc (rec i).first_seq (staged_page (copy_writer w.image i (rec i) q p))) → (a : Alloc) → alloc_of w.map w.state.page_count w.state.cursor ≡ a
+        → (D → (p : ℕ) → Reaches w.image b.pc (rec i).first_seq (staged_page (copy_writer w.image i (rec i) q p))) → (a : Option ℕ) → alloc_of w.map w.state.page_count w.state.cursor ≡ a
         → Keeps D N w (copied_to w i (rec i) q a)
-    to_keeps q e h chain Full z = known g
-    to_keeps q e h chain (Page p) z =
+    to_keeps q e h chain None z = known g
+    to_keeps q e h chain (Some p) z =
         let r = alloc_free g.sees.owners w.state.page_count w.state.cursor p (omega (arith, g.sees.cursor, g.sees.pc)) z in
         let n : p ≡ none → ⊥ = λ y. omega (arith, r.2, g.sees.small) in
         let pc_is = g.sees.pc in

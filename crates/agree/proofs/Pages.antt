@@ -1,4 +1,5 @@
 -- What the view says of a page, and what stores do to it. Assumes nothing.
+use Rattle.std.specs.Prelude.{Option, Some, None}
 use Rattle.page.specs.Store.{Store}
 use Rattle.metalog.specs.Log.{fresh as log_fresh}
 use Prim.Native.Nat.{ℕ, ◌/◌, ◌≤◌, ◌<◌}
@@ -9,8 +10,6 @@ use native.Mathlib.Omega.{arith}
 use lib.ListN.{length, get_or}
 use Rattle.page.specs.declared.DataHeader.{DataHeader}
 use Rattle.page.specs.declared.MetaHeader.{MetaHeader}
-use Rattle.page.specs.declared.MetaRead.{MetaRead}
-use Rattle.page.specs.declared.MetaRead.TheVariants.{Found, Missing}
 use Rattle.metalog.specs.declared.Replay.{Replay}
 use Rattle.agree.specs.View.{dat_by, seen_by, view}
 use Rattle.owners.specs.Moves.{Change}
@@ -35,9 +34,9 @@ pub view_page : (img img' : List ℕ) (p : ℕ) → page_of img' p ≡ page_of i
 unfolding view replay_of
 view_page img img' p e = go (meta_of (page_of img' p)) refl
   where
-    go : (m : MetaRead) → meta_of (page_of img' p) ≡ m → seen_by img' p (meta_of (page_of img' p)) ≡ seen_by img p (meta_of (page_of img p))
-    go Missing h = ap (seen_by img' p) h ∙ ap (λ (pg : List ℕ). dat_by pg (header_of pg)) e ∙ sym (ap (seen_by img p) (ap meta_of (sym e) ∙ h))
-    go (Found m) h =
+    go : (m : Option MetaHeader) → meta_of (page_of img' p) ≡ m → seen_by img' p (meta_of (page_of img' p)) ≡ seen_by img p (meta_of (page_of img p))
+    go None h = ap (seen_by img' p) h ∙ ap (λ (pg : List ℕ). dat_by pg (header_of pg)) e ∙ sym (ap (seen_by img p) (ap meta_of (sym e) ∙ h))
+    go (Some m) h =
         ap (seen_by img' p) h ∙ ap (λ (l : Log). met m.seq m.page_count (replayed m.page_count (log_fresh true) l)) (log_page img img' p e)
         ∙ sym (ap (seen_by img p) (ap meta_of (sym e) ∙ h))
 
@@ -63,18 +62,18 @@ view_data img p {q} {n} {k} {x} e = go (meta_of (page_of img p)) (header_of (pag
     by unreadable h z = clash cc
     by (readable d) h z = record { header = d; reads = h; seq = cc; long = cc; link = cc; bytes = cc }
 
-    go : (m : MetaRead) (r : Read) → header_of (page_of img p) ≡ r → seen_by img p m ≡ dat q n k x → Stands img p q n k x
-    go (Found m) r h z = clash cc
-    go Missing r h z = by r h (sym (ap (dat_by (page_of img p)) h) ∙ z)
+    go : (m : Option MetaHeader) (r : Read) → header_of (page_of img p) ≡ r → seen_by img p m ≡ dat q n k x → Stands img p q n k x
+    go (Some m) r h z = clash cc
+    go None r h z = by r h (sym (ap (dat_by (page_of img p)) h) ∙ z)
 
 -- a metadata page
-pub meta_view : (img : List ℕ) (p : ℕ) (m : MetaHeader) → meta_of (page_of img p) ≡ Found m → view img p ≡ met m.seq m.page_count (replay_of m.page_count img p)
+pub meta_view : (img : List ℕ) (p : ℕ) (m : MetaHeader) → meta_of (page_of img p) ≡ Some m → view img p ≡ met m.seq m.page_count (replay_of m.page_count img p)
 unfolding view
 meta_view img p m e = ap (seen_by img p) e
 
 pub record Reads (img : List ℕ) (p q c : ℕ) (r : Replay) : Type 0 where
   pub header : MetaHeader
-  pub is : meta_of (page_of img p) ≡ Found header
+  pub is : meta_of (page_of img p) ≡ Some header
   pub seq : header.seq ≡ q
   pub count : header.page_count ≡ c
   pub replay : replay_of c img p ≡ r
@@ -87,15 +86,15 @@ view_meta img p {q} {c} {r} e = go (meta_of (page_of img p)) refl e
     by unreadable z = clash cc
     by (readable d) z = clash cc
 
-    go : (m : MetaRead) → meta_of (page_of img p) ≡ m → seen_by img p m ≡ met q c r → Reads img p q c r
-    go Missing h z = by (header_of (page_of img p)) z
-    go (Found m) h z =
+    go : (m : Option MetaHeader) → meta_of (page_of img p) ≡ m → seen_by img p m ≡ met q c r → Reads img p q c r
+    go None h z = by (header_of (page_of img p)) z
+    go (Some m) h z =
         let s : m.page_count ≡ c = cc in
         let t : replay_of m.page_count img p ≡ r = cc in
         record { header = m; is = h; seq = cc; count = s; replay = ap (λ (y : ℕ). replay_of y img p) (sym s) ∙ t }
 
 -- an unreadable one
-pub blank_view : (img : List ℕ) (p : ℕ) → meta_of (page_of img p) ≡ Missing → header_of (page_of img p) ≡ unreadable → view img p ≡ blank
+pub blank_view : (img : List ℕ) (p : ℕ) → meta_of (page_of img p) ≡ None → header_of (page_of img p) ≡ unreadable → view img p ≡ blank
 unfolding view
 blank_view img p e h = ap (seen_by img p) e ∙ ap (dat_by (page_of img p)) h
 

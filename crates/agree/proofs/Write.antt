@@ -1,9 +1,9 @@
 -- Writing keeps the invariant: each turn stages a page, stores a full one and stages the next, or goes on with the staged one.
 -- Assumes nothing.
+use Rattle.std.specs.Prelude.{Some}
 use Rattle.seq.specs.Ids.{none}
 use Rattle.state.specs.declared.types.Writer as StateWriter
 use Rattle.state.specs.World.{World}
-use Rattle.map.specs.declared.Alloc.TheVariants.{Page}
 use Rattle.map.specs.Map.{alloc_of, beyond}
 use Rattle.map.proofs.Laws.{beyond_inside}
 use Rattle.writer.specs.Staging.{staged_header, staged_links, previous_of, flush_stores, flushed, on_page, filled_by}
@@ -169,7 +169,7 @@ module _ {D : Type 0} {N : ℕ} {w : World} {b : Base} {own : ℕ → Owner} (g 
       (λ d y. subst (λ (j : ℕ). WriterRuled w.image b.pc (rec j) (filled_by x l)) (sym (grown_file x l)) (grown_ruled w.image b.pc (rec x.file) x l n ((g.rules d).wr e)))
 
   -- the first page
-  module _ (p : ℕ) (z : alloc_of w.map w.state.page_count w.state.cursor ≡ Page p) (short : length l ≤ 224) where
+  module _ (p : ℕ) (z : alloc_of w.map w.state.page_count w.state.cursor ≡ Some p) (short : length l ≤ 224) where
     found : (own p ≡ free) × (p < w.state.page_count) × (p < N)
     found = alloc_free g.sees.owners w.state.page_count w.state.cursor p (omega (arith, g.sees.cursor, g.sees.pc)) z
 

@@ -1,11 +1,11 @@
 -- Writing keeps the invariant: all turns. Assumes nothing.
+use Rattle.std.specs.Prelude.{Some}
 use Rattle.agree.proofs.Keeps.{known}
 use Rattle.seq.specs.Ids.{none}
 use Rattle.seq.specs.Seq as SeqSpecs
 use borrow.Author.Tests.{not-false}
 use Rattle.state.specs.declared.types.Writer as StateWriter
 use Rattle.state.specs.World.{World}
-use Rattle.map.specs.declared.Alloc.TheVariants.{Page}
 use Rattle.map.specs.Map.{alloc_of, beyond, free_count, used}
 use Rattle.map.proofs.Laws.{alloc_some, alloc_count}
 use Rattle.map.proofs.Laws as MapLaws
@@ -96,14 +96,14 @@ unfolding on_page
 fresh_space x p n = space_some (on_page x p) n
 
 -- which turn is made
-pub ready_first : (count : ℕ) (x : Writing) → x.writer.page ≡ none → (p : ℕ) → alloc_of x.map count x.cursor ≡ Page p
+pub ready_first : (count : ℕ) (x : Writing) → x.writer.page ≡ none → (p : ℕ) → alloc_of x.map count x.cursor ≡ Some p
     → turns.ready count x ≡ record { stores = x.stores; map = set x.map p used; cursor = beyond count p; writer = on_page x.writer p }
 unfolding turns.ready next_page flush
 ready_first count x n p z =
     let e : x.writer.page ≡ none = n in
     rw (space_none x.writer n, eq-eqb x.writer.page none e, z)
 
-pub ready_next : (count : ℕ) (x : Writing) → (x.writer.page ≡ none → ⊥) → space x.writer ≡ 0 → (p : ℕ) → alloc_of x.map count x.cursor ≡ Page p
+pub ready_next : (count : ℕ) (x : Writing) → (x.writer.page ≡ none → ⊥) → space x.writer ≡ 0 → (p : ℕ) → alloc_of x.map count x.cursor ≡ Some p
     → turns.ready count x ≡ record { stores = x.stores ++ flush_stores x.writer; map = set x.map p used; cursor = beyond count p; writer = on_page (flushed x.writer) p }
 unfolding turns.ready next_page flush
 ready_next count x n e p z = rw (e, ne_eqb x.writer.page none n, z)
@@ -141,14 +141,14 @@ module _ {D : Type 0} {N : ℕ} {w : World} {x : Writing} (c : ℕ) (l : List �
   unfolding with_writer with_cursor
   cursor_in = let s = g.known.good.sees in omega (arith, s.cursor, s.pc)
 
-  free_less : (p : ℕ) → alloc_of x.map w.state.page_count x.cursor ≡ Page p → free_count (take w.state.page_count x.map) ≡ 1 + free_count (take w.state.page_count (set x.map p 1))
+  free_less : (p : ℕ) → alloc_of x.map w.state.page_count x.cursor ≡ Some p → free_count (take w.state.page_count x.map) ≡ 1 + free_count (take w.state.page_count (set x.map p 1))
   free_less p z = alloc_count x.map w.state.page_count x.cursor cursor_in p z
 
-  pub some : (p : ℕ) → alloc_of x.map w.state.page_count x.cursor ≡ Page p → p ≡ none → ⊥
+  pub some : (p : ℕ) → alloc_of x.map w.state.page_count x.cursor ≡ Some p → p ≡ none → ⊥
   unfolding with_writer with_cursor
   some p z y = let s = g.known.good.sees in omega (arith, (alloc_free s.owners w.state.page_count x.cursor p cursor_in z).2, s.small)
 
-  next_room : space x.writer ≡ 0 → (p : ℕ) → alloc_of x.map w.state.page_count x.cursor ≡ Page p → 0 < pages_for (224 - (0 + length (take 224 (c ∷ l)))) (length (drop 224 (c ∷ l)))
+  next_room : space x.writer ≡ 0 → (p : ℕ) → alloc_of x.map w.state.page_count x.cursor ≡ Some p → 0 < pages_for (224 - (0 + length (take 224 (c ∷ l)))) (length (drop 224 (c ∷ l)))
       → pages_for (224 - (0 + length (take 224 (c ∷ l)))) (length (drop 224 (c ∷ l))) < free_count (take w.state.page_count (set x.map p 1))
   next_room e p z h =
       let a : 224 - (0 + length (take 224 (c ∷ l))) ≡ 224 - min 224 (suc (length l)) = ap (λ (y : ℕ). 224 - y) (zero-add (length (take 224 (c ∷ l))) ∙ took 224) in
@@ -157,7 +157,7 @@ module _ {D : Type 0} {N : ℕ} {w : World} {x : Writing} (c : ℕ) (l : List �
       rw (a, d) (room_next (suc (length l)) (free_count (take w.state.page_count x.map)) (free_count (take w.state.page_count (set x.map p 1))) (omega arith) r (free_less p z) (rw (a, d) at h))
 
   -- the first page
-  first_turn : x.writer.page ≡ none → (p : ℕ) → alloc_of x.map w.state.page_count x.cursor ≡ Page p
+  first_turn : x.writer.page ≡ none → (p : ℕ) → alloc_of x.map w.state.page_count x.cursor ≡ Some p
       → Then D N w c l 224 (record { stores = x.stores; map = set x.map p 1; cursor = beyond w.state.page_count p; writer = on_page x.writer p })
   unfolding with_writer with_cursor on_page filled_by
   first_turn n p z =
@@ -179,7 +179,7 @@ module _ {D : Type 0} {N : ℕ} {w : World} {x : Writing} (c : ℕ) (l : List �
       space' p n = space_some (filled_by (on_page x.writer p) (take 224 (c ∷ l))) n
 
   -- a full page stored, and the next one
-  next_turn : (x.writer.page ≡ none → ⊥) → space x.writer ≡ 0 → (p : ℕ) → alloc_of x.map w.state.page_count x.cursor ≡ Page p
+  next_turn : (x.writer.page ≡ none → ⊥) → space x.writer ≡ 0 → (p : ℕ) → alloc_of x.map w.state.page_count x.cursor ≡ Some p
       → Then D N w c l 224 (record { stores = x.stores ++ flush_stores x.writer; map = set x.map p 1; cursor = beyond w.state.page_count p; writer = on_page (flushed x.writer) p })
   unfolding with_writer with_cursor on_page filled_by flushed
   next_turn n full p z =

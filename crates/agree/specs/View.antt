@@ -1,9 +1,8 @@
 -- An image as a store of pages, a map as an ownership, a record as a file. A device of the proofs. Assumes nothing: these are definitions.
-use Rattle.std.specs.Prelude.{ℕ, ◌<◌, ◌≡◌, Bool, true, false, cond, List, eqb, length, get_or}
+use Rattle.page.specs.declared.MetaHeader.{MetaHeader}
+use Rattle.std.specs.Prelude.{ℕ, ◌<◌, ◌≡◌, Bool, true, false, cond, List, eqb, length, get_or, Option, Some, None}
 use Rattle.seq.specs.Ids.{none}
 use Rattle.page.specs.Page.{page_of, meta_of, header_of, Read, readable, unreadable}
-use Rattle.page.specs.declared.MetaRead.{MetaRead}
-use Rattle.page.specs.declared.MetaRead.TheVariants.{Found, Missing}
 use Rattle.metalog.specs.Log.{replay_of}
 use Rattle.state.specs.declared.types.FileRecord.{FileRecord}
 use Rattle.state.specs.declared.types.Table.{Table}
@@ -18,9 +17,9 @@ abbrev pub dat_by : List ℕ → Read → Page
 dat_by pg unreadable = blank
 dat_by pg (readable h) = dat h.seq h.length (link_of (get_or h.skiplist 0 0)) pg
 
-abbrev pub seen_by : List ℕ → ℕ → MetaRead → Page
-seen_by img p (Found m) = met m.seq m.page_count (replay_of m.page_count img p)
-seen_by img p Missing = dat_by (page_of img p) (header_of (page_of img p))
+abbrev pub seen_by : List ℕ → ℕ → Option MetaHeader → Page
+seen_by img p (Some m) = met m.seq m.page_count (replay_of m.page_count img p)
+seen_by img p None = dat_by (page_of img p) (header_of (page_of img p))
 
 unfoldable pub view : List ℕ → Store
 view img p = seen_by img p (meta_of (page_of img p))

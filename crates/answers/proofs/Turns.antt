@@ -1,4 +1,6 @@
 -- What answers rest on: a call's outcome with its answer, buffers of which a part is lent, and bytes that are read. Assumes nothing.
+use Rattle.std.specs.Prelude.{Result}
+use Rattle.state.specs.declared.types.Refusal.{Refusal}
 use Prim.Native.Nat.{ℕ, ◌+◌, ◌-◌, ◌≤◌, min}
 use mathlib.Core.Path.{◌≡◌, refl, ap}
 use mathlib.Core.List.{List, ◌++◌}
@@ -10,9 +12,8 @@ use lib.Seq.{take_all, take_at}
 use borrow.Rule.Slice.PartMut.{put_mid}
 use Rattle.runs.specs.Runs.{part, part_of, splice}
 use Rattle.runs.proofs.Laws.{put_splice, part_of_in, length_splice}
-use Rattle.state.specs.declared.types.Done.{Done}
 use Rattle.state.specs.World.{After, in_numbers}
-use Rattle.state.specs.Refusals.{numbers, on_done}
+use Rattle.state.specs.Refusals.{numbers, on_done, Done}
 use Rattle.state.proofs.Numbers.{numbers_same, outcome_same}
 use Rattle.search.specs.declared.Answer.{Answer}
 use Rattle.search.specs.Search.{answer_numbers}
@@ -20,7 +21,6 @@ use Rattle.search.proofs.Numbers.{answer_same}
 use Rattle.reader.specs.declared.ReadOut.{ReadOut}
 use Rattle.reader.specs.Read.{AfterRead, after_read, read_told}
 use Rattle.reader.specs.declared.Located.{Located}
-use Rattle.reader.specs.declared.Skipped.{Skipped}
 use Rattle.reader.specs.Locate.{located_numbers}
 use Rattle.reader.specs.Skip.{skipped_numbers}
 use Rattle.reader.proofs.Numbers.{read_same, located_same, skipped_same}
@@ -51,7 +51,7 @@ sought_left = told_left answer_numbers answer_same sought
 pub located_left : (p s : Spot) (f g : Located) → s ≡ puts p (located f) → located_numbers f ≡ located_numbers g → s ≡ puts p (located g)
 located_left p s f g e h = rw (← located_same f g h) e
 
-pub skipped_left : (p s : Spot) (f g : Skipped) → s ≡ puts p (skipped f) → skipped_numbers f ≡ skipped_numbers g → s ≡ puts p (skipped g)
+pub skipped_left : (p s : Spot) (f g : Result ℕ Refusal) → s ≡ puts p (skipped f) → skipped_numbers f ≡ skipped_numbers g → s ≡ puts p (skipped g)
 skipped_left p s f g e h = rw (← skipped_same f g h) e
 
 -- an answer alone

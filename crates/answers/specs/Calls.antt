@@ -1,19 +1,18 @@
 -- The calls that commands make, and what is said of each answer, by docs/REPLAY.md. Assumes nothing: these are definitions.
-use Rattle.std.specs.Prelude.{ℕ, List, cond, ltb, length, take}
+use Rattle.state.specs.declared.types.Refusal.{Refusal}
+use Rattle.std.specs.Prelude.{ℕ, List, cond, ltb, length, take, Result}
 use Rattle.runs.specs.Runs.{part_of, splice}
 use Rattle.seq.specs.Seq.{Reply, number, refused, zeros_says, index_says, jump_says}
 use Rattle.seq.specs.Seed.{seed_after}
 use Rattle.state.specs.declared.types.Table.{Table}
 use Rattle.state.specs.declared.types.State.{State}
-use Rattle.state.specs.declared.types.Done.{Done}
-use Rattle.state.specs.Refusals.{on_done}
+use Rattle.state.specs.Refusals.{on_done, Done}
 use Rattle.state.specs.World as W
 use Rattle.state.specs.World.{After, after_call, before}
 use Rattle.volume.specs.Format as VolumeFormat
 use Rattle.volume.specs.Mount as VolumeMount
 use Rattle.reader.specs.declared.Located.{Located}
 use Rattle.reader.specs.declared.Located.TheVariants as L
-use Rattle.reader.specs.declared.Skipped.{Skipped}
 use Rattle.reader.specs.declared.Skipped.TheVariants as S
 use Rattle.reader.specs.Locate as ReaderLocate
 use Rattle.reader.specs.Read as ReaderRead
@@ -70,7 +69,7 @@ unfoldable pub located : Located → List (List ℕ)
 located (L.At page count) = with_two (ascii "at % %\n") page count
 located (L.Refused why) = say.refused why
 
-unfoldable pub skipped : Skipped → List (List ℕ)
+unfoldable pub skipped : Result ℕ Refusal → List (List ℕ)
 skipped (S.To seq) = with_one (ascii "to %\n") seq
 skipped (S.Refused why) = say.refused why
 

@@ -1,4 +1,6 @@
 -- Demand 1 over all calls at once: the refusal is the first in document 01's order whose condition holds. Assumes nothing.
+use Rattle.std.specs.Prelude.{Option, Some, None, Err}
+use Rattle.state.specs.Refusals.{Done, fine}
 use Prim.Native.Nat.{ℕ, ◌+◌, ◌≤◌, ◌<◌}
 use mathlib.Core.Path.{◌≡◌, refl, ap, ◌∙◌}
 use mathlib.Core.Bool.{Bool, true, false, cond, ◌&&◌, ◌||◌, not}
@@ -7,19 +9,13 @@ use native.Mathlib.Omega.{arith}
 use borrow.Author.Tests.{ltb-false}
 use lib.Dec.{eqb, leb, ltb}
 use lib.ListN.{length, take}
-use Rattle.metalog.specs.declared.LogEnd.{LogEnd}
-use Rattle.metalog.specs.declared.LogEnd.TheVariants.{At, Damaged as NoLog}
 use Rattle.metalog.specs.Log.{log_end, rest_erased, fits}
 use Rattle.metalog.specs.declared.Entry.{Entry}
-use Rattle.map.specs.declared.Alloc.{Alloc}
-use Rattle.map.specs.declared.Alloc.TheVariants.{Page, Full}
 use Rattle.map.specs.Map.{alloc_of, free_count}
 use Rattle.map.proofs.Laws.{alloc_full}
 use Rattle.chain.specs.Steps.{read_at, walk, Sought, damaged, at, Trace, Stepped, stays, reaches, breaks}
 use Rattle.state.specs.declared.types.FileRecord.{FileRecord}
 use Rattle.state.specs.declared.types.Refusal.TheVariants.{BadSize, NotMounted, Busy, BadFile, Damaged, Eof, Short, NoRoom, SeqEnd, NoSearch, Gone}
-use Rattle.state.specs.declared.types.Done.{Done}
-use Rattle.state.specs.declared.types.Done.TheVariants.{Done as Fine, Refused}
 use Rattle.state.specs.Values.{is_empty, in_shape, no_search}
 use Rattle.state.specs.Checks.{sizes, is_mounted}
 use Rattle.state.specs.World.{World, Outcome, kept, refuse, checked}
@@ -57,14 +53,14 @@ use Rattle.calls.proofs.Cases.{fourth, answered}
 -- ---- tails of cascades
 
 -- Damaged where a file is out of shape or a walk breaks
-shape_or : (s b : Bool) → cond s (cond b (Refused Damaged) Fine) (Refused Damaged) ≡ cond (not s || b) (Refused Damaged) Fine
+shape_or : (s b : Bool) → cond s (cond b (Err Damaged) fine) (Err Damaged) ≡ cond (not s || b) (Err Damaged) fine
 shape_or true b = refl
 shape_or false b = refl
 
 -- a reader's tests, with n wanted or none
 read_tail : (z g e s d : Bool)
-    → cond z Fine (cond g (Refused Gone) (cond e (Refused Eof) (cond s (Refused Short) (cond d (Refused Damaged) Fine))))
-    ≡ cond (not z && g) (Refused Gone) (cond (not z && e) (Refused Eof) (cond (not z && s) (Refused Short) (cond (not z && d) (Refused Damaged) Fine)))
+    → cond z fine (cond g (Err Gone) (cond e (Err Eof) (cond s (Err Short) (cond d (Err Damaged) fine))))
+    ≡ cond (not z && g) (Err Gone) (cond (not z && e) (Err Eof) (cond (not z && s) (Err Short) (cond (not z && d) (Err Damaged) fine)))
 read_tail true g e s d = refl
 read_tail false g e s d = refl
 
@@ -74,7 +70,7 @@ first_format : (w : World) → answer format w ≡ first (conditions format w)
 unfolding answer conditions VF.format VF.formatted
 first_format w = go (sizes (length w.image) (length w.map))
   where
-    go : (b : Bool) → (cond b (VF.formatted w (length w.map) (seed_after w.state.seed)) (refuse w BadSize)).answer ≡ cond (not b) (Refused BadSize) Fine
+    go : (b : Bool) → (cond b (VF.formatted w (length w.map) (seed_after w.state.seed)) (refuse w BadSize)).answer ≡ cond (not b) (Err BadSize) fine
     go true = refl
     go false = refl
 
@@ -85,7 +81,7 @@ first_mount w =
   where
     go : (b : Bool) (x : MM.Maybe MM.LoadedAll)
         → (cond b (MM.mounted_as w (length w.map) (seed_after w.state.seed) (scan w.image (length w.map)) x) (refuse w BadSize)).answer
-        ≡ cond (not b) (Refused BadSize) (cond (mount_bad x) (Refused Damaged) Fine)
+        ≡ cond (not b) (Err BadSize) (cond (mount_bad x) (Err Damaged) fine)
     go true MM.bad = refl
     go true (MM.good x) = refl
     go false x = refl
@@ -107,7 +103,7 @@ first_locate file seq w =
 
     go : (g e s : Bool) (x : Sought) (n : ℕ)
         → located_done (cond g (L.Refused Gone) (cond e (L.Refused Eof) (cond s (RL.located_by n x) (L.Refused Damaged))))
-        ≡ cond g (Refused Gone) (cond e (Refused Eof) (cond (not s || path_bad x) (Refused Damaged) Fine))
+        ≡ cond g (Err Gone) (cond e (Err Eof) (cond (not s || path_bad x) (Err Damaged) fine))
     go true e s x n = refl
     go false true s x n = refl
     go false false false x n = refl
@@ -135,9 +131,9 @@ read_says_lem w r out =
     f = record_at w r.file
 
     go : (z g e s h : Bool) (x : R.Bytes)
-        → (cond z (R.read_kept r out Fine) (cond g (R.read_kept r out (Refused Gone)) (cond e (R.read_kept r out (Refused Eof))
-        (cond s (R.read_kept r out (Refused Short)) (cond h (R.read_by r out x) (R.read_by r out R.none)))))).answer
-        ≡ cond (not z && g) (Refused Gone) (cond (not z && e) (Refused Eof) (cond (not z && s) (Refused Short) (cond (not z && (not h || read_bad x)) (Refused Damaged) Fine)))
+        → (cond z (R.read_kept r out fine) (cond g (R.read_kept r out (Err Gone)) (cond e (R.read_kept r out (Err Eof))
+        (cond s (R.read_kept r out (Err Short)) (cond h (R.read_by r out x) (R.read_by r out R.none)))))).answer
+        ≡ cond (not z && g) (Err Gone) (cond (not z && e) (Err Eof) (cond (not z && s) (Err Short) (cond (not z && (not h || read_bad x)) (Err Damaged) fine)))
     go true g e s h x = refl
     go false true e s h x = refl
     go false false true s h x = refl
@@ -164,7 +160,7 @@ first_skip r n w =
     go : (z g e s l h : Bool) (x : R.Opened)
         → skipped_done (cond z (S.To r.seq) (cond g (S.Refused Gone) (cond e (S.Refused Eof)
         (cond s (S.Refused Short) (cond l (S.To (r.seq + n)) (cond h (K.landed_by (r.seq + n) x) (S.Refused Damaged)))))))
-        ≡ cond (not z && g) (Refused Gone) (cond (not z && e) (Refused Eof) (cond (not z && s) (Refused Short) (cond (not z && (not l && (not h || open_bad x))) (Refused Damaged) Fine)))
+        ≡ cond (not z && g) (Err Gone) (cond (not z && e) (Err Eof) (cond (not z && s) (Err Short) (cond (not z && (not l && (not h || open_bad x))) (Err Damaged) fine)))
     go true g e s l h x = refl
     go false true e s l h x = refl
     go false false true s l h x = refl
@@ -180,11 +176,11 @@ first_seek file n w = first_skip (K.reader_of file (record_at w file)) n w
 
 -- ---- search
 
-first_hunt : (w : World) (s : Stand) → sought_done (Q.sought w s).answer ≡ cond (hunt_bad (hunted w s)) (Refused Damaged) Fine
+first_hunt : (w : World) (s : Stand) → sought_done (Q.sought w s).answer ≡ cond (hunt_bad (hunted w s)) (Err Damaged) fine
 unfolding Q.sought
 first_hunt w s = go (hunted w s)
   where
-    go : (x : H.Sought) → sought_done (Q.sought_by w s x).answer ≡ cond (hunt_bad x) (Refused Damaged) Fine
+    go : (x : H.Sought) → sought_done (Q.sought_by w s x).answer ≡ cond (hunt_bad x) (Err Damaged) fine
     go (H.offered l o) = refl
     go H.ended = refl
     go H.broken = refl
@@ -203,7 +199,7 @@ first_search file w =
 
     go : (e h : Bool)
         → sought_done (cond e (Q.answering w (A.End f.first_seq) no_search) (cond h (Q.sought w s) (kept w (A.Refused Damaged)))).answer
-        ≡ cond (not e && (not h || hunt_bad (hunted w s))) (Refused Damaged) Fine
+        ≡ cond (not e && (not h || hunt_bad (hunted w s))) (Err Damaged) fine
     go true h = refl
     go false false = refl
     go false true = first_hunt w s
@@ -219,7 +215,7 @@ first_answered w f =
     s = f w.state.search
 
     go : (a : Bool) → sought_done (cond a (Q.sought w s) (kept w (A.Refused NoSearch))).answer
-        ≡ cond (a && false) (Refused SeqEnd) (cond (a && false) (Refused NoRoom) (cond (not a) (Refused NoSearch) (cond (a && hunt_bad (hunted w s)) (Refused Damaged) Fine)))
+        ≡ cond (a && false) (Err SeqEnd) (cond (a && false) (Err NoRoom) (cond (not a) (Err NoSearch) (cond (a && hunt_bad (hunted w s)) (Err Damaged) fine)))
     go true = first_hunt w s
     go false = refl
 
@@ -244,18 +240,18 @@ first_open file w =
     f = record_at w file
 
     -- with two pages free there is one to allocate
-    copied_fine : (a : Alloc) (q : PagePointer) → alloc_of w.map (count_of w) w.state.cursor ≡ a → too_few w.map (count_of w) 1 ≡ false
-        → (O.copied_to w file f q a).answer ≡ Fine
-    copied_fine (Page p) q e t = refl
-    copied_fine Full q e t =
+    copied_fine : (a : Option ℕ) (q : PagePointer) → alloc_of w.map (count_of w) w.state.cursor ≡ a → too_few w.map (count_of w) 1 ≡ false
+        → (O.copied_to w file f q a).answer ≡ fine
+    copied_fine (Some p) q e t = refl
+    copied_fine None q e t =
         let z = alloc_full w.map (count_of w) w.state.cursor e in
         let l : 2 ≤ free_count (take (count_of w) w.map) = ltb-false _ _ t in
         absurd (omega arith)
 
-    go : (l e z s t : Bool) → too_few w.map (count_of w) 1 ≡ t → (x : Stepped) (a : Alloc) → alloc_of w.map (count_of w) w.state.cursor ≡ a
+    go : (l e z s t : Bool) → too_few w.map (count_of w) 1 ≡ t → (x : Stepped) (a : Option ℕ) → alloc_of w.map (count_of w) w.state.cursor ≡ a
         → (cond l (refuse w SeqEnd) (cond e (O.readied w file f) (cond z (cond s (O.readied w file f) (refuse w Damaged))
         (cond t (refuse w NoRoom) (cond s (O.copied w file f x) (refuse w Damaged)))))).answer
-        ≡ cond l (Refused SeqEnd) (cond (not e && not z && t) (Refused NoRoom) (cond (not e && (not s || not e && not z && step_bad x)) (Refused Damaged) Fine))
+        ≡ cond l (Err SeqEnd) (cond (not e && not z && t) (Err NoRoom) (cond (not e && (not s || not e && not z && step_bad x)) (Err Damaged) fine))
     go true e z s t et x a ea = refl
     go false true z s t et x a ea = refl
     go false false true false t et x a ea = refl
@@ -273,8 +269,8 @@ first_write l ok w =
     ∙ ap (fourth w false false) (go (eqb (length l) 0) w.state.writer.active _ _)
   where
     go : (z a e t : Bool)
-        → (cond z (kept w Fine) (cond (not a) (refuse w NoSearch) (cond e (refuse w SeqEnd) (cond t (refuse w NoRoom) (W.written_as w (W.write_from (count_of w) (length l) l (W.begun w))))))).answer
-        ≡ cond (not z && a && e) (Refused SeqEnd) (cond (not z && a && t) (Refused NoRoom) (cond (not z && not a) (Refused NoSearch) Fine))
+        → (cond z (kept w fine) (cond (not a) (refuse w NoSearch) (cond e (refuse w SeqEnd) (cond t (refuse w NoRoom) (W.written_as w (W.write_from (count_of w) (length l) l (W.begun w))))))).answer
+        ≡ cond (not z && a && e) (Err SeqEnd) (cond (not z && a && t) (Err NoRoom) (cond (not z && not a) (Err NoSearch) fine))
     go true a e t = refl
     go false false e t = refl
     go false true true t = refl
@@ -282,12 +278,12 @@ first_write l ok w =
     go false true false false = refl
 
 -- where a call on the open writer succeeds but for Damaged
-on_writer : (w : World) (o : Outcome Done) (d : Bool) → o.answer ≡ cond d (Refused Damaged) Fine
+on_writer : (w : World) (o : Outcome Done) (d : Bool) → o.answer ≡ cond d (Err Damaged) fine
     → (checked w false 0 (refuse w) (cond w.state.writer.active o (refuse w NoSearch))).answer ≡ first (on_open w false w.state.writer.active false false d)
 on_writer w o d e = answered (λ (o : Outcome Done). o.answer) w false 0 _ _ (λ why. refl) ∙ ap (fourth w false false) (go w.state.writer.active)
   where
     go : (a : Bool) → (cond a o (refuse w NoSearch)).answer
-        ≡ cond (a && false) (Refused SeqEnd) (cond (a && false) (Refused NoRoom) (cond (not a) (Refused NoSearch) (cond (a && d) (Refused Damaged) Fine)))
+        ≡ cond (a && false) (Err SeqEnd) (cond (a && false) (Err NoRoom) (cond (not a) (Err NoSearch) (cond (a && d) (Err Damaged) fine)))
     go true = e
     go false = refl
 
@@ -299,7 +295,7 @@ first_finish : (w : World) → answer finish w ≡ first (conditions finish w)
 unfolding answer conditions F.finish F.finished
 first_finish w = on_writer w _ false (go (is_staged w.state.writer))
   where
-    go : (b : Bool) → (cond b (F.finished w w.state.writer) (F.shut w)).answer ≡ Fine
+    go : (b : Bool) → (cond b (F.finished w w.state.writer) (F.shut w)).answer ≡ fine
     go true = refl
     go false = refl
 
@@ -307,7 +303,7 @@ first_discard : (w : World) → answer discard w ≡ first (conditions discard w
 unfolding answer conditions F.discard
 first_discard w = on_writer w _ _ (go (F.back_from (count_of w) (read_at w.image) w.state.writer.stored (previous_of w.state.writer)))
   where
-    go : (b : F.Back) → (F.discarded_by w w.state.writer b).answer ≡ cond (back_bad b) (Refused Damaged) Fine
+    go : (b : F.Back) → (F.discarded_by w w.state.writer b).answer ≡ cond (back_bad b) (Err Damaged) fine
     go F.lost = refl
     go (F.pages l) = refl
 
@@ -324,8 +320,8 @@ first_truncate file n w =
     f = record_at w file
 
     go : (z e s : Bool) (x : Sought)
-        → (cond z (kept w Fine) (cond e (T.changed_file w file w.map T.emptied) (cond s (T.truncated_by w file f (T.new_first f n) x) (refuse w Damaged)))).answer
-        ≡ cond (not z && not e && (not s || path_bad x)) (Refused Damaged) Fine
+        → (cond z (kept w fine) (cond e (T.changed_file w file w.map T.emptied) (cond s (T.truncated_by w file f (T.new_first f n) x) (refuse w Damaged)))).answer
+        ≡ cond (not z && not e && (not s || path_bad x)) (Err Damaged) fine
     go true e s x = refl
     go false true s x = refl
     go false false false x = refl
@@ -339,9 +335,9 @@ first_rename i j w =
     ∙ go (wrong w) (not (is_mounted w.state)) w.state.writer.active (ltb 7 i) (ltb 7 j)
   where
     go : (a m b f g : Bool)
-        → cond a (Refused BadSize) (cond m (Refused NotMounted) (cond b (Refused Busy) (cond f (Refused BadFile)
+        → cond a (Err BadSize) (cond m (Err NotMounted) (cond b (Err Busy) (cond f (Err BadFile)
         (cond g (refuse w BadFile) (N.changed_table w (N.swapped w.table i j))).answer)))
-        ≡ cond a (Refused BadSize) (cond m (Refused NotMounted) (cond b (Refused Busy) (cond (f || g) (Refused BadFile) Fine)))
+        ≡ cond a (Err BadSize) (cond m (Err NotMounted) (cond b (Err Busy) (cond (f || g) (Err BadFile) fine)))
     go true m b f g = refl
     go false true b f g = refl
     go false false true f g = refl
@@ -353,28 +349,28 @@ first_flags : (file n : ℕ) (ok : n < 256) (w : World) → answer (flags file n
 unfolding answer conditions N.flags
 first_flags file n ok w = answered (λ (o : Outcome Done). o.answer) w w.state.writer.active file _ _ (λ why. refl)
 
-commit_tail : (w : World) (b : List Entry) (z : Bool) (e : LogEnd)
+commit_tail : (w : World) (b : List Entry) (z : Bool) (e : Option ℕ)
     → (cond z (C.committed w []) (C.appended_at w b e)).answer
-    ≡ cond (not z && moves w b e && eqb w.state.meta_seq 4294967295) (Refused SeqEnd)
-    (cond (not z && moves w b e && is_full (alloc_of w.map (count_of w) w.state.cursor)) (Refused NoRoom) (cond (not z && log_bad e) (Refused Damaged) Fine))
+    ≡ cond (not z && moves w b e && eqb w.state.meta_seq 4294967295) (Err SeqEnd)
+    (cond (not z && moves w b e && is_full (alloc_of w.map (count_of w) w.state.cursor)) (Err NoRoom) (cond (not z && log_bad e) (Err Damaged) fine))
 unfolding C.moved
 commit_tail w b z e = go z e
   where
-    fit : (e : ℕ) (s : Bool) (a : Alloc) (h : Bool)
+    fit : (e : ℕ) (s : Bool) (a : Option ℕ) (h : Bool)
         → (cond h (C.committed w (batch_stores w.state.meta_page e b)) (cond s (refuse w SeqEnd) (C.moved_to w a))).answer
-        ≡ cond (not h && s) (Refused SeqEnd) (cond (not h && is_full a) (Refused NoRoom) Fine)
+        ≡ cond (not h && s) (Err SeqEnd) (cond (not h && is_full a) (Err NoRoom) fine)
     fit e s a true = refl
     fit e true a false = refl
-    fit e false Full false = refl
-    fit e false (Page p) false = refl
+    fit e false None false = refl
+    fit e false (Some p) false = refl
 
-    go : (z : Bool) (e : LogEnd)
+    go : (z : Bool) (e : Option ℕ)
         → (cond z (C.committed w []) (C.appended_at w b e)).answer
-        ≡ cond (not z && moves w b e && eqb w.state.meta_seq 4294967295) (Refused SeqEnd)
-        (cond (not z && moves w b e && is_full (alloc_of w.map (count_of w) w.state.cursor)) (Refused NoRoom) (cond (not z && log_bad e) (Refused Damaged) Fine))
+        ≡ cond (not z && moves w b e && eqb w.state.meta_seq 4294967295) (Err SeqEnd)
+        (cond (not z && moves w b e && is_full (alloc_of w.map (count_of w) w.state.cursor)) (Err NoRoom) (cond (not z && log_bad e) (Err Damaged) fine))
     go true e = refl
-    go false NoLog = refl
-    go false (At e) =
+    go false None = refl
+    go false (Some e) =
         fit e (eqb w.state.meta_seq 4294967295) (alloc_of w.map (count_of w) w.state.cursor)
         (fits e (length b) && rest_erased w.image w.state.meta_page e)
 

@@ -1,4 +1,5 @@
 -- Demand 1 over all calls at once: what a refusal leaves of world and output. Assumes nothing.
+use Rattle.std.specs.Prelude.{Option, Some, None, Ok, Err}
 use Prim.Native.Nat.{ℕ, ◌+◌}
 use mathlib.Core.Path.{◌≡◌, refl, sym, ap, ◌∙◌}
 use mathlib.Core.Bool.{Bool, true, false, cond, ◌&&◌, not}
@@ -6,21 +7,15 @@ use lib.Dec.{eqb, leb, ltb}
 use mathlib.Core.List.{List, []}
 use native.Mathlib.Omega.{arith}
 use lib.ListN.{length}
-use Rattle.metalog.specs.declared.LogEnd.{LogEnd}
-use Rattle.metalog.specs.declared.LogEnd.TheVariants.{At, Damaged as NoLog}
 use Rattle.metalog.specs.Log.{log_end, rest_erased, fits}
 use Rattle.metalog.specs.Batch.{batch_stores}
 use Rattle.seq.specs.Seq.{limit}
-use Rattle.map.specs.declared.Alloc.{Alloc}
-use Rattle.map.specs.declared.Alloc.TheVariants.{Page, Full}
 use Rattle.map.specs.Map.{alloc_of}
 use Rattle.chain.specs.Files.{last_of}
 use Rattle.chain.specs.Steps.{read_at, walk, Sought, damaged, at, Stepped, stays, reaches, breaks}
 use Rattle.state.specs.declared.types.Refusal.{Refusal}
 use Rattle.state.specs.declared.types.Refusal.TheVariants.{BadSize, NotMounted, Busy, BadFile, Damaged, NoRoom, SeqEnd, NoSearch, Gone, Eof, Short}
-use Rattle.state.specs.declared.types.Done.{Done}
-use Rattle.state.specs.declared.types.Done.TheVariants.{Done as Fine, Refused}
-use Rattle.state.specs.Refusals.{on_done}
+use Rattle.state.specs.Refusals.{on_done, Done, fine}
 use Rattle.state.specs.Checks.{sizes, is_mounted, wrong_size, checks}
 use Rattle.state.specs.Values.{file_at, is_empty, in_shape, with_flags, no_search}
 use Rattle.state.specs.World.{World, Outcome, ended, kept, refuse, checked}
@@ -52,35 +47,35 @@ use Rattle.calls.specs.Order.{mount_leaves, output_left}
 -- ---- outcomes that leave the world where they refuse
 
 record Keeps {A : Type 0} (f : A → Done) (w : World) (o : Outcome A) : Type 0 where
-  keeps : (why : Refusal) → f o.answer ≡ Refused why → (ended w o).world ≡ w
+  keeps : (why : Refusal) → f o.answer ≡ Err why → (ended w o).world ≡ w
 
-never : {R : Type 0} (why : Refusal) → Fine ≡ Refused why → R
+never : {R : Type 0} (why : Refusal) → fine ≡ Err why → R
 never why e = let z : ◌≡◌ {A = ℕ} 0 1 = cc in absurd (omega arith)
 
 module _ {A : Type 0} (f : A → Done) (w : World) where
   keeps_kept : (a : A) → Keeps f w (kept w a)
   keeps_kept a = record { keeps = λ why e. refl }
 
-  keeps_fine : (o : Outcome A) → f o.answer ≡ Fine → Keeps f w o
+  keeps_fine : (o : Outcome A) → f o.answer ≡ fine → Keeps f w o
   keeps_fine o h = record { keeps = λ why e. never why (sym h ∙ e) }
 
   keeps_checked : (busy : Bool) (file : ℕ) (r : Refusal → A) {x : Outcome A} → Keeps f w x → Keeps f w (checked w busy file (λ why. kept w (r why)) x)
   keeps_checked busy file r {x} h = by (checks (length w.image) (length w.map) w.state busy file)
     where
       by : (d : Done) → Keeps f w (on_done d (λ why. kept w (r why)) x)
-      by Fine = h
-      by (Refused why) = keeps_kept (r why)
+      by (Ok u) = h
+      by (Err why) = keeps_kept (r why)
 
 -- checks 1 to 4 never answer Damaged
 abbrev Early : Done → Type 0
-Early Fine = Unit {0}
-Early (Refused why) = (out : List ℕ) → output_left why out ≡ out
+Early (Ok u) = Unit {0}
+Early (Err why) = (out : List ℕ) → output_left why out ≡ out
 
 passed : (image map : ℕ) (s : State) (busy : Bool) (file : ℕ) → Early (checks image map s busy file)
 unfolding checks
 passed image map s busy file = go (wrong_size image map (is_mounted s) s.pages) (is_mounted s) busy (ltb 7 file)
   where
-    go : (a m b f : Bool) → Early (cond a (Refused BadSize) (cond m (cond b (Refused Busy) (cond f (Refused BadFile) Fine)) (Refused NotMounted)))
+    go : (a m b f : Bool) → Early (cond a (Err BadSize) (cond m (cond b (Err Busy) (cond f (Err BadFile) fine)) (Err NotMounted)))
     go true m b f = λ out. refl
     go false false b f = λ out. refl
     go false true true f = λ out. refl
@@ -95,13 +90,13 @@ same d = d
 module _ (w : World) where
   -- of a call with no value: a refusal, a success, and checks 1 to 4
   no : (why : Refusal) → Keeps same w (refuse w why)
-  no why = keeps_kept same w (Refused why)
+  no why = keeps_kept same w (Err why)
 
-  ok : (o : Outcome Done) → o.answer ≡ Fine → Keeps same w o
+  ok : (o : Outcome Done) → o.answer ≡ fine → Keeps same w o
   ok o e = keeps_fine same w o e
 
   past : (busy : Bool) (file : ℕ) (x : Outcome Done) → Keeps same w x → Keeps same w (checked w busy file (refuse w) x)
-  past busy file x h = keeps_checked same w busy file Refused h
+  past busy file x h = keeps_checked same w busy file Err h
 
   format_keeps : Keeps same w (VF.format w)
   unfolding VF.format VF.formatted
@@ -120,9 +115,9 @@ module _ (w : World) where
       f : FileRecord
       f = file_at w.table i
 
-      to : (q : PagePointer) (a : Alloc) → Keeps same w (O.copied_to w i f q a)
-      to q Full = no NoRoom
-      to q (Page p) = ok (O.copied_to w i f q (Page p)) refl
+      to : (q : PagePointer) (a : Option ℕ) → Keeps same w (O.copied_to w i f q a)
+      to q None = no NoRoom
+      to q (Some p) = ok (O.copied_to w i f q (Some p)) refl
 
       go : (l e z s t : Bool) (x : Stepped)
           → Keeps same w (cond l (refuse w SeqEnd) (cond e (O.readied w i f) (cond z (cond s (O.readied w i f) (refuse w Damaged))
@@ -140,15 +135,15 @@ module _ (w : World) where
   write_keeps : (l : List ℕ) → Keeps same w (W.write w l)
   unfolding W.write W.write_in
   write_keeps l =
-      past false 0 (cond (eqb (length l) 0) (kept w Fine) (W.write_in w l))
+      past false 0 (cond (eqb (length l) 0) (kept w fine) (W.write_in w l))
       (go (eqb (length l) 0) w.state.writer.active (ltb limit (w.state.writer.seq + w.state.writer.length + length l))
       (too_few w.map w.state.page_count (pages_for (space w.state.writer) (length l))))
     where
       o : Outcome Done
       o = W.written_as w (W.write_from w.state.page_count (length l) l (W.begun w))
 
-      go : (z a e t : Bool) → Keeps same w (cond z (kept w Fine) (cond (not a) (refuse w NoSearch) (cond e (refuse w SeqEnd) (cond t (refuse w NoRoom) o))))
-      go true a e t = ok (kept w Fine) refl
+      go : (z a e t : Bool) → Keeps same w (cond z (kept w fine) (cond (not a) (refuse w NoSearch) (cond e (refuse w SeqEnd) (cond t (refuse w NoRoom) o))))
+      go true a e t = ok (kept w fine) refl
       go false false e t = no NoSearch
       go false true true t = no SeqEnd
       go false true false true = no NoRoom
@@ -185,15 +180,15 @@ module _ (w : World) where
   truncate_keeps : (i n : ℕ) → Keeps same w (T.truncate w i n)
   unfolding T.truncate T.truncate_in
   truncate_keeps i n =
-      past w.state.writer.active i (cond (eqb n 0) (kept w Fine) (T.truncate_in w i f n))
+      past w.state.writer.active i (cond (eqb n 0) (kept w fine) (T.truncate_in w i f n))
       (go (eqb n 0) (is_empty f) (in_shape w.state.page_count f) (walk w.state.page_count (read_at w.image) f.first_seq (last_of f)).ends)
     where
       f : FileRecord
       f = file_at w.table i
 
       go : (z e s : Bool) (x : Sought)
-          → Keeps same w (cond z (kept w Fine) (cond e (T.changed_file w i w.map T.emptied) (cond s (T.truncated_by w i f (T.new_first f n) x) (refuse w Damaged))))
-      go true e s x = ok (kept w Fine) refl
+          → Keeps same w (cond z (kept w fine) (cond e (T.changed_file w i w.map T.emptied) (cond s (T.truncated_by w i f (T.new_first f n) x) (refuse w Damaged))))
+      go true e s x = ok (kept w fine) refl
       go false true s x = ok (T.changed_file w i w.map T.emptied) refl
       go false false false x = no Damaged
       go false false true damaged = no Damaged
@@ -221,16 +216,16 @@ module _ (w : World) where
       b : List Entry
       b = C.dirty_files w.table
 
-      fit : (e : ℕ) (s : Bool) (a : Alloc) (h : Bool) → Keeps same w (cond h (C.committed w (batch_stores w.state.meta_page e b)) (cond s (refuse w SeqEnd) (C.moved_to w a)))
+      fit : (e : ℕ) (s : Bool) (a : Option ℕ) (h : Bool) → Keeps same w (cond h (C.committed w (batch_stores w.state.meta_page e b)) (cond s (refuse w SeqEnd) (C.moved_to w a)))
       fit e s a true = ok (C.committed w (batch_stores w.state.meta_page e b)) refl
       fit e true a false = no SeqEnd
-      fit e false Full false = no NoRoom
-      fit e false (Page p) false = ok (C.moved_to w (Page p)) refl
+      fit e false None false = no NoRoom
+      fit e false (Some p) false = ok (C.moved_to w (Some p)) refl
 
-      go : (z : Bool) (e : LogEnd) → Keeps same w (cond z (C.committed w []) (C.appended_at w b e))
+      go : (z : Bool) (e : Option ℕ) → Keeps same w (cond z (C.committed w []) (C.appended_at w b e))
       go true e = ok (C.committed w []) refl
-      go false NoLog = no Damaged
-      go false (At e) =
+      go false None = no Damaged
+      go false (Some e) =
           fit e (eqb w.state.meta_seq 4294967295) (alloc_of w.map w.state.page_count w.state.cursor)
           (fits e (length b) && rest_erased w.image w.state.meta_page e)
 
@@ -270,20 +265,20 @@ module _ (w : World) where
 -- ---- all at once
 
 -- a refused mount
-pub mount_leaves_lem : (w : World) (why : Refusal) → answer mount w ≡ Refused why → step mount w ≡ mount_leaves why w
+pub mount_leaves_lem : (w : World) (why : Refusal) → answer mount w ≡ Err why → step mount w ≡ mount_leaves why w
 unfolding answer step MM.mount MM.mount_with MM.mount_best
 mount_leaves_lem w why = go (sizes (length w.image) (length w.map)) (MM.mount_from w.image (length w.map) (scan w.image (length w.map)))
   where
     out : Bool → MM.Maybe MM.LoadedAll → Outcome Done
     out b x = cond b (MM.mounted_as w (length w.map) (seed_after w.state.seed) (scan w.image (length w.map)) x) (refuse w BadSize)
 
-    go : (b : Bool) (x : MM.Maybe MM.LoadedAll) → (out b x).answer ≡ Refused why → (ended w (out b x)).world ≡ mount_leaves why w
+    go : (b : Bool) (x : MM.Maybe MM.LoadedAll) → (out b x).answer ≡ Err why → (ended w (out b x)).world ≡ mount_leaves why w
     go false x e = let q : BadSize ≡ why = cc in ap (λ (k : Refusal). mount_leaves k w) q
     go true MM.bad e = let q : Damaged ≡ why = cc in ap (λ (k : Refusal). mount_leaves k w) q
     go true (MM.good x) e = never why e
 
 -- any other call that is refused
-pub refused_leaves : (c : Call) (w : World) (why : Refusal) → ¬ (c ≡ mount) → answer c w ≡ Refused why → step c w ≡ w
+pub refused_leaves : (c : Call) (w : World) (why : Refusal) → ¬ (c ≡ mount) → answer c w ≡ Err why → step c w ≡ w
 unfolding answer step
 refused_leaves format w why n e = (format_keeps w).keeps why e
 refused_leaves mount w why n e = absurd (n refl)
@@ -305,27 +300,27 @@ refused_leaves (flags file k l) w why n e = (flags_keeps w file k).keeps why e
 refused_leaves commit w why n e = (commit_keeps w).keeps why e
 
 abbrev ReadLeaves : Reader → List ℕ → Refusal → R.AfterRead → Type 0
-ReadLeaves r out why x = x.answer ≡ Refused why → x ≡ R.read_kept r (output_left why out) (Refused why)
+ReadLeaves r out why x = x.answer ≡ Err why → x ≡ R.read_kept r (output_left why out) (Err why)
 
 -- what a refused read leaves
-pub read_leaves : (w : World) (r : Reader) (out : List ℕ) (why : Refusal) → (R.read w r out).answer ≡ Refused why → R.read w r out ≡ R.read_kept r (output_left why out) (Refused why)
+pub read_leaves : (w : World) (r : Reader) (out : List ℕ) (why : Refusal) → (R.read w r out).answer ≡ Err why → R.read w r out ≡ R.read_kept r (output_left why out) (Err why)
 unfolding R.read R.read_in
 read_leaves w r out why = by (checks (length w.image) (length w.map) w.state w.state.transaction r.file) (passed (length w.image) (length w.map) w.state w.state.transaction r.file)
   where
     f : FileRecord
     f = file_at w.table r.file
 
-    kept_so : (k : Refusal) → output_left k out ≡ out → ReadLeaves r out why (R.read_kept r out (Refused k))
+    kept_so : (k : Refusal) → output_left k out ≡ out → ReadLeaves r out why (R.read_kept r out (Err k))
     kept_so k h e =
         let q : k ≡ why = cc in
-        ap (λ (x : List ℕ). R.read_kept r x (Refused k)) (sym h) ∙ ap (λ (x : Refusal). R.read_kept r (output_left x out) (Refused x)) q
+        ap (λ (x : List ℕ). R.read_kept r x (Err k)) (sym h) ∙ ap (λ (x : Refusal). R.read_kept r (output_left x out) (Err x)) q
 
     broken : ReadLeaves r out why (R.read_by r out R.none)
-    broken e = let q : Damaged ≡ why = cc in ap (λ (x : Refusal). R.read_kept r (output_left x out) (Refused x)) q
+    broken e = let q : Damaged ≡ why = cc in ap (λ (x : Refusal). R.read_kept r (output_left x out) (Err x)) q
 
     go : (z g e s h : Bool) (x : R.Bytes) → ReadLeaves r out why
-        (cond z (R.read_kept r out Fine) (cond g (R.read_kept r out (Refused Gone)) (cond e (R.read_kept r out (Refused Eof))
-        (cond s (R.read_kept r out (Refused Short)) (cond h (R.read_by r out x) (R.read_by r out R.none))))))
+        (cond z (R.read_kept r out fine) (cond g (R.read_kept r out (Err Gone)) (cond e (R.read_kept r out (Err Eof))
+        (cond s (R.read_kept r out (Err Short)) (cond h (R.read_by r out x) (R.read_by r out R.none))))))
     go true g e s h x q = never why q
     go false true e s h x q = kept_so Gone refl q
     go false false true s h x q = kept_so Eof refl q
@@ -334,8 +329,8 @@ read_leaves w r out why = by (checks (length w.image) (length w.map) w.state w.s
     go false false false false true R.none q = broken q
     go false false false false true (R.some l) q = never why q
 
-    by : (d : Done) → Early d → ReadLeaves r out why (on_done d (λ k. R.read_kept r out (Refused k)) (R.read_in w.image w.state.page_count f r out))
-    by Fine h =
+    by : (d : Done) → Early d → ReadLeaves r out why (on_done d (λ k. R.read_kept r out (Err k)) (R.read_in w.image w.state.page_count f r out))
+    by (Ok u) h =
         go (eqb (length out) 0) (ltb r.seq f.first_seq) (leb f.last_seq r.seq) (ltb f.last_seq (r.seq + length out)) (in_shape w.state.page_count f)
         (R.bytes_from w.image w.state.page_count f (length out) r.seq (length out))
-    by (Refused k) h = kept_so k (h out)
+    by (Err k) h = kept_so k (h out)

@@ -1,10 +1,10 @@
 -- All calls of document 01 as one step from world to world, and the worlds that calls reach. Assumes nothing: these are definitions.
-use Rattle.std.specs.Prelude.{ℕ, ◌<◌, ◌≡◌, List, ◌⊎◌, length}
+use Rattle.state.specs.declared.types.Refusal.{Refusal}
+use Rattle.state.specs.Refusals.{Done, fine}
+use Rattle.std.specs.Prelude.{ℕ, ◌<◌, ◌≡◌, List, ◌⊎◌, length, Result, Ok, Err}
 use Rattle.page.specs.Page.{Bytes}
 use Rattle.state.specs.declared.types.Table.{Table}
 use Rattle.state.specs.declared.types.State.{State}
-use Rattle.state.specs.declared.types.Done.{Done}
-use Rattle.state.specs.declared.types.Done.TheVariants.{Done as Fine, Refused}
 use Rattle.state.specs.World.{World, after_call}
 use Rattle.volume.specs.Format as VolumeFormat
 use Rattle.volume.specs.Mount as VolumeMount
@@ -12,8 +12,6 @@ use Rattle.reader.specs.declared.Reader.{Reader}
 use Rattle.reader.specs.declared.Located.{Located}
 use Rattle.reader.specs.declared.Located.TheVariants.{At}
 use Rattle.reader.specs.declared.Located.TheVariants as L
-use Rattle.reader.specs.declared.Skipped.{Skipped}
-use Rattle.reader.specs.declared.Skipped.TheVariants.{To}
 use Rattle.reader.specs.declared.Skipped.TheVariants as S
 use Rattle.reader.specs.Locate as ReaderLocate
 use Rattle.reader.specs.Read as ReaderRead
@@ -74,17 +72,17 @@ step commit w = (after_call TransactCommit.commit w).world
 -- ---- what a call answers: done, or its refusal
 
 abbrev pub located_done : Located → Done
-located_done (At p n) = Fine
-located_done (L.Refused why) = Refused why
+located_done (At p n) = fine
+located_done (L.Refused why) = Err why
 
-abbrev pub skipped_done : Skipped → Done
-skipped_done (To n) = Fine
-skipped_done (S.Refused why) = Refused why
+abbrev pub skipped_done : Result ℕ Refusal → Done
+skipped_done (Ok n) = fine
+skipped_done (S.Refused why) = Err why
 
 abbrev pub sought_done : Answer → Done
-sought_done (Offers n) = Fine
-sought_done (End n) = Fine
-sought_done (A.Refused why) = Refused why
+sought_done (Offers n) = fine
+sought_done (End n) = fine
+sought_done (A.Refused why) = Err why
 
 unfoldable pub answer : Call → World → Done
 answer format w = (VolumeFormat.format w).answer
@@ -112,13 +110,13 @@ answer commit w = (TransactCommit.commit w).answer
 pub record Formatted (w : World) : Type 0 where
   pub from : World
   pub bytes : Bytes from.image
-  pub done : (VolumeFormat.format from).answer ≡ Fine
+  pub done : (VolumeFormat.format from).answer ≡ fine
   pub left : w ≡ (after_call VolumeFormat.format from).world
 
 pub record Mounted (w : World) : Type 0 where
   pub from : World
   pub bytes : Bytes from.image
-  pub done : (VolumeMount.mount from).answer ≡ Fine
+  pub done : (VolumeMount.mount from).answer ≡ fine
   pub left : w ≡ (after_call VolumeMount.mount from).world
 
 -- what any calls with any arguments, refused ones too, reach from a start

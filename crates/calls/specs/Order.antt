@@ -1,24 +1,18 @@
 -- When each call gives each refusal, by document 01, "Refusal numbers": a condition for each, and the order in which they are checked. The
 -- answer is the first in that order whose condition holds, so a condition need not shut out those before it. Last, what a refusal leaves.
 -- Assumes nothing: these are definitions.
-use Rattle.std.specs.Prelude.{ℕ, ◌+◌, Bool, true, false, cond, ◌&&◌, ◌||◌, not, List, [], ◌∷◌, eqb, leb, ltb, length, replicate}
+use Rattle.std.specs.Prelude.{ℕ, ◌+◌, Bool, true, false, cond, ◌&&◌, ◌||◌, not, List, [], ◌∷◌, eqb, leb, ltb, length, replicate, Option, Some, None, Err}
 use Rattle.seq.specs.Seq.{limit}
-use Rattle.metalog.specs.declared.LogEnd.{LogEnd}
-use Rattle.metalog.specs.declared.LogEnd.TheVariants.{At, Damaged as NoLog}
 use Rattle.metalog.specs.Log.{log_end, rest_erased, fits}
 use Rattle.metalog.specs.declared.Entry.{Entry}
-use Rattle.map.specs.declared.Alloc.{Alloc}
-use Rattle.map.specs.declared.Alloc.TheVariants.{Page, Full}
 use Rattle.map.specs.Map.{alloc_of}
 use Rattle.chain.specs.Files.{last_of}
 use Rattle.chain.specs.Steps.{read_at, Sought, damaged, at, walk, Stepped, stays, reaches, breaks}
 use Rattle.state.specs.declared.types.FileRecord.{FileRecord}
 use Rattle.state.specs.declared.types.Refusal.{Refusal}
 use Rattle.state.specs.declared.types.Refusal.TheVariants.{BadSize, NotMounted, Busy, BadFile, Damaged, Eof, Short, NoRoom, SeqEnd, NoSearch, Gone, Range}
-use Rattle.state.specs.declared.types.Done.{Done}
-use Rattle.state.specs.declared.types.Done.TheVariants.{Done as Fine, Refused}
 use Rattle.state.specs.Values.{file_at, is_empty, in_shape, unmounted}
-use Rattle.state.specs.Refusals.{number}
+use Rattle.state.specs.Refusals.{number, Done, fine}
 use Rattle.state.specs.Checks.{sizes, is_mounted, wrong_size}
 use Rattle.state.specs.World.{World}
 use Rattle.volume.specs.Scan.{scan}
@@ -70,8 +64,8 @@ holds c Damaged = c.damaged
 
 -- the first refusal of a list whose condition holds
 abbrev pub first_of : List Refusal → (Refusal → Bool) → Done
-first_of [] p = Fine
-first_of (r ∷ l) p = cond (p r) (Refused r) (first_of l p)
+first_of [] p = fine
+first_of (r ∷ l) p = cond (p r) (Err r) (first_of l p)
 
 abbrev pub first : Conditions → Done
 first c = first_of order (holds c)
@@ -198,18 +192,18 @@ hunt_bad (H.offered l o) = false
 hunt_bad H.ended = false
 hunt_bad H.broken = true
 
-abbrev pub log_bad : LogEnd → Bool
-log_bad NoLog = true
-log_bad (At e) = false
+abbrev pub log_bad : Option ℕ → Bool
+log_bad None = true
+log_bad (Some e) = false
 
 -- a commit of a batch needs a new metadata page
-abbrev pub moves : World → List Entry → LogEnd → Bool
-moves w b NoLog = false
-moves w b (At e) = not (fits e (length b) && rest_erased w.image w.state.meta_page e)
+abbrev pub moves : World → List Entry → Option ℕ → Bool
+moves w b None = false
+moves w b (Some e) = not (fits e (length b) && rest_erased w.image w.state.meta_page e)
 
-abbrev pub is_full : Alloc → Bool
-is_full Full = true
-is_full (Page p) = false
+abbrev pub is_full : Option ℕ → Bool
+is_full None = true
+is_full (Some p) = false
 
 -- ---- each call's conditions
 
@@ -267,7 +261,7 @@ writing w l =
       damaged = false;
     }
 
-abbrev pub committing : World → List Entry → LogEnd → Conditions
+abbrev pub committing : World → List Entry → Option ℕ → Conditions
 committing w b e =
     record {
       bad_size = wrong w;

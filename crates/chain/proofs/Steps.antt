@@ -1,4 +1,6 @@
 -- What the exits of the code's steps come to, over plain values. Assumes nothing.
+use Rattle.std.specs.Prelude.{Option, Some, None}
+use Rattle.seq.specs.declared.ids.PageID.{PageID}
 use mathlib.Core.Path.{◌≡◌, refl, sym, ◌∙◌, ap, subst}
 use mathlib.Core.Bool.{Bool, true, false, cond}
 use mathlib.Core.Logic.{◌⊎◌, inl, inr}
@@ -10,8 +12,6 @@ use borrow.Author.Tests.{le-ltb, lt-ltb, eqb-true, eqb-false}
 use lib.Dec.{eqb, ltb}
 use lib.ListN.{length}
 use Rattle.seq.specs.Ids.{none, page_of, option_of}
-use Rattle.seq.specs.declared.ids.PageOption.{PageOption}
-use Rattle.seq.specs.declared.ids.PageOption.TheVariants.{Some, None}
 use Rattle.seq.specs.Seq.{index, level}
 use Rattle.seq.proofs.Laws.{level_below}
 use Rattle.page.specs.Page.{Read, unreadable, readable, gives}
@@ -31,12 +31,12 @@ use Rattle.chain.proofs.Rules.{none_no_page, outside_no_page, is_page_lem, seek_
 -- ---- reading a lower page
 
 -- what a test of a raw id shows
-module _ (o : PageOption) {x j : ℕ} (e : o ≡ option_of x) (r : x ≡ j) where
-  abbrev Shown : PageOption → Type 0
+module _ (o : Option PageID) {x j : ℕ} (e : o ≡ option_of x) (r : x ≡ j) where
+  abbrev Shown : Option PageID → Type 0
   Shown (Some page) = (page.raw ≡ j) × (j ≡ none → ⊥)
   Shown None = j ≡ none
 
-  pub shown : (s : PageOption) → o ≡ s → Shown s
+  pub shown : (s : Option PageID) → o ≡ s → Shown s
   shown s q = subst Shown (sym (rw r at e) ∙ q) (by (eqb j none) refl)
     where
       by : (b : Bool) → eqb j none ≡ b → Shown (cond b None (Some (page_of j)))

@@ -4,11 +4,11 @@
 -- and `answer` make it by the very definition that the call's public function promises. FromEither are the worlds that calls reach, refused
 -- ones too, from a successful format or mount of any image of bytes with any map, table and state; FromFormat those from a format, where power
 -- may also be lost between two calls and come back.
-use Rattle.std.specs.Prelude.{ℕ, ◌+◌, ◌≤◌, ◌<◌, ◌≡◌, true, false, ◌⊎◌, List, length}
+use Rattle.state.specs.Refusals.{fine}
+use Rattle.std.specs.Prelude.{ℕ, ◌+◌, ◌≤◌, ◌<◌, ◌≡◌, true, false, ◌⊎◌, List, length, Err}
 use Rattle.state.specs.declared.types.Table.{Table}
 use Rattle.state.specs.declared.types.State.{State}
 use Rattle.state.specs.declared.types.Refusal.{Refusal}
-use Rattle.state.specs.declared.types.Done.TheVariants.{Done as Fine, Refused}
 use Rattle.state.specs.Checks.{is_mounted}
 use Rattle.state.specs.Values.{file_at, unmounted}
 use Rattle.state.specs.World.{World, after_call}
@@ -39,15 +39,15 @@ pub demand_1_order : (c : Call) (w : World) → answer c w ≡ first (conditions
 demand_1_order c w = first_refusal c w
 
 -- A refusal leaves image, map, table and state as they were, of every call but mount.
-pub demand_1_leaves : (c : Call) (w : World) (why : Refusal) → ¬ (c ≡ calls.mount) → answer c w ≡ Refused why → step c w ≡ w
+pub demand_1_leaves : (c : Call) (w : World) (why : Refusal) → ¬ (c ≡ calls.mount) → answer c w ≡ Err why → step c w ≡ w
 demand_1_leaves c w why other refused = refused_leaves c w why other refused
 
 -- A Damaged mount leaves the state unmounted with its seed, the map all zero, image and table; any other refused one leaves all.
-pub demand_1_mount : (w : World) (why : Refusal) → answer calls.mount w ≡ Refused why → step calls.mount w ≡ mount_leaves why w
+pub demand_1_mount : (w : World) (why : Refusal) → answer calls.mount w ≡ Err why → step calls.mount w ≡ mount_leaves why w
 demand_1_mount w why refused = mount_leaves_lem w why refused
 
 -- A Damaged read leaves the whole output zero, whatever stood in it; any other refused one leaves the output. The reader stays.
-pub demand_1_read : (w : World) (r : Reader) (out : List ℕ) (why : Refusal) → (read w r out).answer ≡ Refused why → read w r out ≡ read_kept r (output_left why out) (Refused why)
+pub demand_1_read : (w : World) (r : Reader) (out : List ℕ) (why : Refusal) → (read w r out).answer ≡ Err why → read w r out ≡ read_kept r (output_left why out) (Err why)
 demand_1_read w r out why refused = read_leaves w r out why refused
 
 -- ---- WHAT A REACHED WORLD IS
@@ -76,11 +76,11 @@ one_of_both w reached = format_either reached
 
 -- Where commit succeeds, mount of the image that it leaves, with any map of that length, any table and any state, succeeds and gives the same
 -- eight files: last page and header, first_seq, last_seq, flags, and the same byte at every live number.
-pub demand_2 : (w : World) → FromEither w → (after_call commit w).answer ≡ Fine → (m : List ℕ) (t : Table) (s : State) → length m ≡ length w.map → Again w m t s
+pub demand_2 : (w : World) → FromEither w → (after_call commit w).answer ≡ fine → (m : List ℕ) (t : Table) (s : State) → length m ≡ length w.map → Again w m t s
 demand_2 w reached done m t s size = sound_commit (either_sound reached) done m t s size
 
 -- From a format, with a transaction open or not, read of live numbers after that commit and mount gives the bytes that the files held before.
-pub demand_2_read : (w : World) → FromFormat w → (after_call commit w).answer ≡ Fine → (m : List ℕ) (t : Table) (s : State) → length m ≡ length w.map
+pub demand_2_read : (w : World) → FromFormat w → (after_call commit w).answer ≡ fine → (m : List ℕ) (t : Table) (s : State) → length m ≡ length w.map
     → (r : Reader) (out : List ℕ) → r.file < 8 → 0 < length out → (file_at w.table r.file).first_seq ≤ r.seq
     → r.seq + length out ≤ (file_at w.table r.file).last_seq → Reads w (after_call VolumeMount.mount (afresh w m t s)).world r out
 demand_2_read w reached done m t s size r out file some first last = commit_reads (format_reached reached) done m t s size r out file some first last

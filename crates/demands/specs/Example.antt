@@ -1,11 +1,11 @@
 -- The statements speak of something: worlds made by a few calls, computed, and the theorems applied to them. Assumes nothing.
+use Rattle.state.specs.Refusals.{fine}
 use Rattle.std.specs.Prelude.{ℕ, ◌≡◌, refl, true, false, List, [], ◌∷◌, ◌++◌, map, length, replicate}
 use Rattle.std.proofs.Common.{subst, inr, arith, rules}
 use Rattle.page.specs.Page.{Bytes, header_bytes, meta_bytes}
 use Rattle.page.proofs.Laws.{bytes_replicate, bytes_append}
 use Rattle.page.proofs.Back.{bytes_header, bytes_meta}
 use Rattle.state.specs.declared.types.FileRecord.{FileRecord}
-use Rattle.state.specs.declared.types.Done.TheVariants.{Done as Fine}
 use Rattle.state.specs.Checks.{is_mounted}
 use Rattle.state.specs.Values.{file_at, empty_table, unmounted}
 use Rattle.state.specs.World.{World, after_call}
@@ -76,7 +76,7 @@ shortened = step (calls.truncate 0 224) committed
 abbrev pub busy : World
 busy = step (calls.write (7 ∷ []) (omega arith, tt)) (step (calls.open_writer 1) shortened)
 
-formats : (VolumeFormat.format blank).answer ≡ Fine
+formats : (VolumeFormat.format blank).answer ≡ fine
 unfolding computing
 formats = refl
 
@@ -143,7 +143,7 @@ read_220 = demand_3_read committed reached_committed idle from_220 (replicate 10
 abbrev any_map : List ℕ
 any_map = replicate 8 7
 
-commits : (after_call TransactCommit.commit written).answer ≡ Fine
+commits : (after_call TransactCommit.commit written).answer ≡ fine
 unfolding computing
 commits = refl
 
@@ -182,7 +182,7 @@ noted : ledger_busy.committed 0 ≡ all_300
 unfolding computing
 noted = refl
 
-powers : (VolumeMount.mount (powered busy any_map empty_table (unmounted 9))).answer ≡ Fine
+powers : (VolumeMount.mount (powered busy any_map empty_table (unmounted 9))).answer ≡ fine
 powers = (power_up busy ledger_busy told_busy any_map empty_table (unmounted 9) eight_busy).mounts
 
 all_there : AsNoted (step calls.mount (powered busy any_map empty_table (unmounted 9))) 0 all_300
@@ -209,7 +209,7 @@ of_bytes =
     (bytes_append page_1 (replicate 512 255)
     (bytes_append (meta_bytes _) (batch ++ replicate 232 255) (bytes_meta _) (bytes_append batch (replicate 232 255) (search rules) (bytes_replicate 232 255 (omega arith)))) (bytes_replicate 512 255 (omega arith)))
 
-mounts : (VolumeMount.mount foreign).answer ≡ Fine
+mounts : (VolumeMount.mount foreign).answer ≡ fine
 unfolding computing
 mounts = refl
 
@@ -243,7 +243,7 @@ page_of_5 = partition renamed reached_renamed stands 0 (omega (arith, count_3))
 abbrev any_four : List ℕ
 any_four = replicate 4 7
 
-commits_too : (after_call TransactCommit.commit renamed).answer ≡ Fine
+commits_too : (after_call TransactCommit.commit renamed).answer ≡ fine
 unfolding computing
 commits_too = refl
 

@@ -6,9 +6,8 @@ use Prim.Native.Nat.{ℕ}
 use Rattle.state.specs.declared.types.Table.{Table}
 use Rattle.state.specs.declared.types.Search.{Search}
 use Rattle.state.specs.declared.types.State.{State}
-use Rattle.state.specs.declared.types.Done.{Done}
 use Rattle.state.specs.declared.types.Out.{Out}
-use Rattle.state.specs.Refusals.{numbers}
+use Rattle.state.specs.Refusals.{numbers, Done}
 use Rattle.state.specs.Values.{with_search}
 use Rattle.state.specs.World.{After, before, after, in_numbers, yields}
 use Rattle.state.proofs.Numbers.{numbers_same, outcome_same}

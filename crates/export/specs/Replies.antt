@@ -1,17 +1,15 @@
 -- What an exported call hands back, by the call's own definition. Assumes nothing: these are definitions.
-use Rattle.std.specs.Prelude.{ℕ, ◌≡◌, Bool, true, false, List}
+use Rattle.state.specs.declared.types.Refusal.{Refusal}
+use Rattle.std.specs.Prelude.{ℕ, ◌≡◌, Bool, true, false, List, Result, Ok, Err}
 use Rattle.seq.specs.Ids.{none}
 use Rattle.state.specs.declared.types.Table.{Table}
 use Rattle.state.specs.declared.types.State.{State}
-use Rattle.state.specs.declared.types.Done.{Done}
-use Rattle.state.specs.declared.types.Done.TheVariants.{Done as Fine, Refused}
 use Rattle.state.specs.declared.types.Out.{Out}
-use Rattle.state.specs.Refusals.{number}
+use Rattle.state.specs.Refusals.{number, Done}
 use Rattle.state.specs.Values.{with_search}
 use Rattle.state.specs.World.{After, before}
 use Rattle.reader.specs.declared.Located.{Located}
 use Rattle.reader.specs.declared.Located.TheVariants as L
-use Rattle.reader.specs.declared.Skipped.{Skipped}
 use Rattle.reader.specs.declared.Skipped.TheVariants as S
 use Rattle.reader.specs.declared.ReadOut.{ReadOut}
 use Rattle.reader.specs.Read.{AfterRead}
@@ -26,8 +24,8 @@ use Rattle.export.specs.declared.replies.SearchParts.{SearchParts}
 
 -- 0, or document 01's number of the refusal
 abbrev pub code_of : Done → ℕ
-code_of Fine = 0
-code_of (Refused why) = number why
+code_of (Ok u) = 0
+code_of (Err why) = number why
 
 -- ---- calls that change
 
@@ -55,7 +53,7 @@ pub record ReadReplied (r : SeqReply) (out : List ℕ) (a : AfterRead) : Type 0 
   pub output : out ≡ a.out
 
 -- of a reader that stands at a number, which a refusal leaves
-abbrev pub skipped_reply : ℕ → Skipped → SeqReply
+abbrev pub skipped_reply : ℕ → Result ℕ Refusal → SeqReply
 skipped_reply stands (S.To seq) = record { code = 0; seq = seq }
 skipped_reply stands (S.Refused why) = record { code = number why; seq = stands }
 

@@ -1,4 +1,5 @@
 -- The ways out of the inventory of an image. Assumes nothing.
+use Rattle.std.specs.Prelude.{Err}
 use mathlib.Core.Path.{◌≡◌, sym, ap, ◌∙◌}
 use mathlib.Core.List.{List}
 use Prim.Native.Nat.{ℕ, ◌/◌, ◌≤◌, ◌<◌}
@@ -9,10 +10,8 @@ use Rattle.page.proofs.Laws.{take_replicate}
 use Rattle.state.specs.declared.types.Table.{Table}
 use Rattle.state.specs.declared.types.State.{State}
 use Rattle.state.specs.declared.types.Refusal.{Refusal}
-use Rattle.state.specs.declared.types.Done.{Done}
-use Rattle.state.specs.declared.types.Done.TheVariants.{Done as Fine, Refused}
 use Rattle.state.specs.declared.types.Out.{Out}
-use Rattle.state.specs.Refusals.{number}
+use Rattle.state.specs.Refusals.{number, Done, fine}
 use Rattle.state.specs.Values.{empty_table, unmounted}
 use Rattle.state.specs.World.{World, After, before, after, after_call, yields, promised}
 use Rattle.state.proofs.Numbers.{promise_same}
@@ -46,11 +45,11 @@ module _ (img : List ℕ) (h : length img ≤ 65536) (r : Out) where
 
   module _ (o : Handed img r) where
     -- a refusal
-    pub list_refused : (why : Refusal) → r.answer ≡ Refused why → refused_by (number why) ≡ inventory_of img
+    pub list_refused : (why : Refusal) → r.answer ≡ Err why → refused_by (number why) ≡ inventory_of img
     unfolding inventory_of
     list_refused why e = rw (le-ltb _ _ h, o.answer, e)
 
     -- the files
-    pub list_files : r.answer ≡ Fine → record { refused = 0; lines = lines_of img r.state.page_count r.table } ≡ inventory_of img
+    pub list_files : r.answer ≡ fine → record { refused = 0; lines = lines_of img r.state.page_count r.table } ≡ inventory_of img
     unfolding inventory_of
     list_files e = rw (le-ltb _ _ h, o.answer, e, o.table, o.state)

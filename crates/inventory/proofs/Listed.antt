@@ -1,5 +1,6 @@
 -- A listing beside the mount that it makes: a line counts the pages that mount's walk of its file visits, never the 0 of a walk that
 -- breaks. That mount claims just those pages is said in `volume` (`mount_says`). Assumes nothing.
+use Rattle.state.specs.Refusals.{Done, fine}
 use mathlib.Core.Path.{◌≡◌, refl, sym, ap, subst, ◌∙◌}
 use mathlib.Core.Bool.{false}
 use mathlib.Core.Logic.{inl, inr}
@@ -14,8 +15,6 @@ use Rattle.chain.specs.Files.{last_of}
 use Rattle.chain.specs.Steps.{read_at, walk, visited}
 use Rattle.state.specs.declared.types.FileRecord.{FileRecord}
 use Rattle.state.specs.declared.types.Table.{Table}
-use Rattle.state.specs.declared.types.Done.{Done}
-use Rattle.state.specs.declared.types.Done.TheVariants.{Done as Fine}
 use Rattle.state.specs.Values.{file_at, is_empty, empty_record, absent, settled}
 use Rattle.state.specs.World.{Outcome}
 use Rattle.volume.specs.Mounted.{FileIs, FilesAre, pages_of as claimed}
@@ -63,7 +62,7 @@ count_of img = (mounted img).state.page_count
 abbrev pub file_of : List ℕ → ℕ → FileRecord
 file_of img i = file_at (mounted img).table i
 
-module _ (img : List ℕ) (fits : length img ≤ 65536) (good : (mounted img).answer ≡ Fine) (i : ℕ) (some : i < 8) where
+module _ (img : List ℕ) (fits : length img ≤ 65536) (good : (mounted img).answer ≡ fine) (i : ℕ) (some : i < 8) where
   -- the line of file i is that of the table that mount leaves
   listed_line : line_at img i ≡ line_of img (count_of img) (file_of img i)
   unfolding inventory_of

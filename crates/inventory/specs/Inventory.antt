@@ -1,13 +1,11 @@
 -- What the listing program lists, by document 01, "Listing program"; DECISIONS 25. Assumes nothing: these are definitions.
-use Rattle.std.specs.Prelude.{ℕ, ◌+◌, ◌/◌, true, false, cond, List, [], ◌∷◌, ltb, length, replicate}
+use Rattle.std.specs.Prelude.{ℕ, ◌+◌, ◌/◌, true, false, cond, List, [], ◌∷◌, ltb, length, replicate, Ok, Err}
 use Rattle.chain.specs.Files.{last_of}
 use Rattle.chain.specs.Steps.{read_at, Sought, damaged, at, walk}
 use Rattle.chain.specs.declared.PagePointer.{PagePointer}
 use Rattle.state.specs.declared.types.FileRecord.{FileRecord}
 use Rattle.state.specs.declared.types.Table.{Table}
-use Rattle.state.specs.declared.types.Done.{Done}
-use Rattle.state.specs.declared.types.Done.TheVariants.{Done as Fine, Refused}
-use Rattle.state.specs.Refusals.{number}
+use Rattle.state.specs.Refusals.{number, Done}
 use Rattle.state.specs.Values.{file_at, is_empty, empty_table, unmounted}
 use Rattle.state.specs.World.{Outcome, before}
 use Rattle.volume.specs.Mount.{mount}
@@ -45,8 +43,8 @@ abbrev pub refused_by : ℕ → Inventory
 refused_by n = record { refused = n; lines = replicate 8 no_line }
 
 abbrev pub listed_by : List ℕ → Outcome Done → Done → Inventory
-listed_by img o (Refused why) = refused_by (number why)
-listed_by img o Fine =
+listed_by img o (Err why) = refused_by (number why)
+listed_by img o (Ok u) =
     record { refused = 0; lines = lines_of img o.state.page_count o.table }
 
 -- the image mounted with seed 1

@@ -1,4 +1,5 @@
 -- Mount of an image for which the invariant holds, with any map of that length, any table and any state: it succeeds. Assumes nothing.
+use Rattle.state.specs.Refusals.{Done, fine}
 use Prim.Native.Nat.{ℕ, ◌*◌, ◌≤◌}
 use mathlib.Core.Path.{◌≡◌, sym, ap, subst, ◌∙◌}
 use mathlib.Core.Bool.{Bool, true, false, cond}
@@ -10,8 +11,6 @@ use Rattle.seq.specs.Seed.{seed_after}
 use Rattle.state.specs.declared.types.Table.{Table}
 use Rattle.state.specs.declared.types.State.{State}
 use Rattle.state.specs.declared.types.Refusal.TheVariants.{BadSize}
-use Rattle.state.specs.declared.types.Done.{Done}
-use Rattle.state.specs.declared.types.Done.TheVariants.{Done as Fine}
 use Rattle.state.specs.Checks.{sizes}
 use Rattle.state.specs.Values.{settled}
 use Rattle.state.specs.World.{World, Outcome, refuse}
@@ -54,7 +53,7 @@ module _ {D : Type 0} {N : ℕ} {w : World} {b : Base} {own : ℕ → Owner} (g 
       ∙ ap (VolumeMount.mounted_as v (length m) (seed_after s.seed) best) finds
 
   -- nothing is open then
-  pub boot_fine : (VolumeMount.mount (powered w m t s)).answer ≡ Fine
+  pub boot_fine : (VolumeMount.mount (powered w m t s)).answer ≡ fine
   boot_fine = ap (λ (o : Outcome Done). o.answer) boots_as
 
   pub boot_idle : (VolumeMount.mount (powered w m t s)).state.transaction ≡ false

@@ -1,4 +1,5 @@
 -- Where commit succeeds, mount of the image that it leaves succeeds and gives the same eight files. Assumes nothing.
+use Rattle.state.specs.Refusals.{Done, fine}
 use Rattle.seq.specs.Seed.{seed_after}
 use Rattle.state.specs.World.{World, Outcome, ended, after_call}
 use Rattle.state.specs.Values.{settled}
@@ -20,8 +21,6 @@ use Rattle.page.specs.declared.DataHeader.{DataHeader}
 use Rattle.state.specs.declared.types.FileRecord.{FileRecord}
 use Rattle.state.specs.declared.types.Table.{Table}
 use Rattle.state.specs.declared.types.State.{State}
-use Rattle.state.specs.declared.types.Done.{Done}
-use Rattle.state.specs.declared.types.Done.TheVariants.{Done as Fine}
 use Rattle.chain.specs.declared.PagePointer.{PagePointer}
 use Rattle.reached.specs.Asked.{nowhere, byte, byte_by, byte_at, SameFile, afresh, Again}
 use Rattle.reached.proofs.Reach.{Sound}
@@ -106,7 +105,7 @@ alike img f g a c e =
 
 -- ---- the commit
 
-module _ {D : Type 0} {N : ℕ} {w : World} {b : Base} {own : ℕ → Owner} (g : Good D N w b own) (ok : (commit w).answer ≡ Fine) where
+module _ {D : Type 0} {N : ℕ} {w : World} {b : Base} {own : ℕ → Owner} (g : Good D N w b own) (ok : (commit w).answer ≡ fine) where
   abbrev img' : List ℕ
   img' = (after_call commit w).world.image
 
@@ -219,12 +218,12 @@ module _ {D : Type 0} {N : ℕ} {w : World} {b : Base} {own : ℕ → Owner} (g 
             }
 
 -- nothing is committed where nothing is mounted
-off_answer : (w : World) → is_mounted w.state ≡ false → (commit w).answer ≡ Fine → ⊥
+off_answer : (w : World) → is_mounted w.state ≡ false → (commit w).answer ≡ fine → ⊥
 unfolding commit
-off_answer w e = checked_off (λ (o : Outcome Done). o.answer ≡ Fine → ⊥) w _ _ _ _ e (λ why h. clash cc)
+off_answer w e = checked_off (λ (o : Outcome Done). o.answer ≡ fine → ⊥) w _ _ _ _ e (λ why h. clash cc)
 
 -- DEMAND 2
-pub sound_commit : {w : World} → Sound w → (commit w).answer ≡ Fine → (m : List ℕ) (t : Table) (s : State) → length m ≡ length w.map → Again w m t s
+pub sound_commit : {w : World} → Sound w → (commit w).answer ≡ fine → (m : List ℕ) (t : Table) (s : State) → length m ≡ length w.map → Again w m t s
 sound_commit {w} k ok m t s h = by (is_mounted w.state) refl
   where
     by : (c : Bool) → is_mounted w.state ≡ c → Again w m t s

@@ -1,4 +1,5 @@
 -- Live numbers are located and read, in every world that calls reach from a format. Assumes nothing.
+use Rattle.std.specs.Prelude.{Err}
 use Rattle.seq.specs.Ids.{none}
 use Rattle.state.specs.World.{World}
 use Rattle.chain.specs.Files.{last_of}
@@ -8,7 +9,7 @@ use Rattle.chain.specs.Seek.{Right, most}
 use Rattle.chain.proofs.Seeks.{right}
 use Rattle.chain.proofs.Seeks as seeks
 use Rattle.runs.specs.Runs.{part}
-use Rattle.reader.specs.declared.Located.TheVariants.{At, Refused as NotLocated}
+use Rattle.reader.specs.declared.Located.TheVariants.{At}
 use Rattle.reader.specs.declared.Reader.{Reader}
 use Rattle.reader.specs.Locate.{path_of, located_by, locate_in, locate}
 use Rattle.reader.specs.Read.{Opened, shown, opened_at, opened_by, open_at, some, before, here, bytes_here, bytes_by, bytes_from, read_by, read_kept, read_in, moved, read}
@@ -27,8 +28,6 @@ use lib.Dec.{eqb}
 use borrow.Author.Tests.{eq-eqb, ne_eqb, le-leb, lt-leb, lt-ltb, le-ltb}
 use Rattle.page.specs.declared.DataHeader.{DataHeader}
 use Rattle.state.specs.declared.types.FileRecord.{FileRecord}
-use Rattle.state.specs.declared.types.Done.{Done}
-use Rattle.state.specs.declared.types.Done.TheVariants.{Done as Fine, Refused}
 use Rattle.chain.specs.declared.PagePointer.{PagePointer}
 use Rattle.reached.specs.Asked.{In, OnChain, byte, byte_by, byte_at, Locates, Reads}
 use Rattle.reached.proofs.Held.{Held}
@@ -48,7 +47,7 @@ use Rattle.page.specs.Page.{page_of, Read, readable, holds}
 use Rattle.page.proofs.Headers.{header_bounds, header_there, holds_in, holds_bounds}
 use Rattle.page.proofs.Laws.{page_length}
 use Rattle.state.specs.Checks.{checks}
-use Rattle.state.specs.Refusals.{on_done}
+use Rattle.state.specs.Refusals.{on_done, Done, fine}
 use Rattle.state.specs.Values.{file_at, in_shape}
 use Rattle.chain.specs.Links.{Stand, oldest, holder, ids, Among}
 use Rattle.chain.specs.Steps.{read_at, seek, walk}
@@ -260,7 +259,7 @@ module _ {N : ℕ} {w : World} {b : Base} {own : ℕ → Owner} (g : Good (Unit 
   -- ---- the calls
 
   module _ (idle : w.state.transaction ≡ false) where
-    passes : checks (length w.image) (length w.map) w.state w.state.transaction i ≡ Fine
+    passes : checks (length w.image) (length w.map) w.state w.state.transaction i ≡ fine
     passes = ap (λ (c : Bool). checks (length w.image) (length w.map) w.state c i) idle ∙ good_checks g i (omega arith)
 
     in_files : i < length w.table.files
@@ -279,7 +278,7 @@ module _ {N : ℕ} {w : World} {b : Base} {own : ℕ → Owner} (g : Good (Unit 
         record {
           page = page full n;
           gives =
-              ap (λ (d : Done). on_done d NotLocated (locate_in img w.state.page_count (file_at w.table i) n)) passes
+              ap (λ (d : Done). on_done d Err (locate_in img w.state.page_count (file_at w.table i) n)) passes
               ∙ subst (λ (p : Both). locate_in img p.count p.file n ≡ At (page full n).page_id (length (path_of img p.count p.file n).path)) (sym both_is) (locate_in_lem full n lo hi);
           stepped = subst (λ (p : Both). (walk p.count (read_at img) n (last_of p.file)).ends ≡ at (page full n)) (sym both_is) (right_page full n lo hi).stepped;
           on_chain = subst (λ (f : FileRecord). OnChain w f (page full n).page_id) (sym file_is) (record { some = full; visits = subst (In (page full n).page_id) (sym (chain_pages g i full)) (mem_in (subst (Mem (page full n).page_id) (chain_ids full) (page_mem full n lo hi))) });
@@ -313,9 +312,9 @@ module _ {N : ℕ} {w : World} {b : Base} {own : ℕ → Owner} (g : Good (Unit 
         record {
           bytes = B.list;
           gives =
-              ap (λ (j : ℕ). on_done (checks (length w.image) (length w.map) w.state w.state.transaction j) (λ why. read_kept r out (Refused why)) (read_in img w.state.page_count (file_at w.table j) r out)) e
-              ∙ ap (λ (d : Done). on_done d (λ why. read_kept r out (Refused why)) (read_in img w.state.page_count (file_at w.table i) r out)) passes
-              ∙ subst (λ (p : Both). read_in img p.count p.file r out ≡ record { answer = Fine; reader = moved r (length out); out = B.list }) (sym both_is) read_in_lem;
+              ap (λ (j : ℕ). on_done (checks (length w.image) (length w.map) w.state w.state.transaction j) (λ why. read_kept r out (Err why)) (read_in img w.state.page_count (file_at w.table j) r out)) e
+              ∙ ap (λ (d : Done). on_done d (λ why. read_kept r out (Err why)) (read_in img w.state.page_count (file_at w.table i) r out)) passes
+              ∙ subst (λ (p : Both). read_in img p.count p.file r out ≡ record { answer = fine; reader = moved r (length out); out = B.list }) (sym both_is) read_in_lem;
           size = B.size;
           each = λ k h. subst (λ (j : ℕ). byte_at img w.state.page_count (file_at w.table j) (r.seq + k) ≡ byte (get_or B.list k 0)) (sym e)
               (subst (λ (p : Both). byte_at img p.count p.file (r.seq + k) ≡ byte (get_or B.list k 0)) (sym both_is)
@@ -340,7 +339,7 @@ module _ {N : ℕ} {w : World} {b : Base} {own : ℕ → Owner} (g : Good (Unit 
         nz : length out ≡ 0 → ⊥
         nz z = omega arith
 
-        read_in_lem : read_in w.image b.pc (rec_at w.table i) r out ≡ record { answer = Fine; reader = moved r (length out); out = B.list }
+        read_in_lem : read_in w.image b.pc (rec_at w.table i) r out ≡ record { answer = fine; reader = moved r (length out); out = B.list }
         read_in_lem =
             rw (ne_eqb (length out) 0 nz, le-ltb r.seq f.first_seq lo, lt-leb f.last_seq r.seq (omega (arith, hi)), le-ltb f.last_seq (r.seq + length out) hi, in_shape_lem full)
             (ap (read_by r out) B.is)

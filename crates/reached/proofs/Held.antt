@@ -1,5 +1,5 @@
 -- In every world that calls reach from a format the invariant holds with the link rule, so that it counts as mounted. Assumes nothing.
-use Rattle.state.specs.declared.types.Done.TheVariants.{Done as Fine}
+use Rattle.state.specs.Refusals.{Done, fine}
 use Rattle.state.specs.World.{World, Outcome, ended, after_call}
 use Rattle.state.specs.declared.types.Table.{Table}
 use Rattle.state.specs.declared.types.State.{State}
@@ -15,7 +15,6 @@ use mathlib.Core.Path.{◌≡◌, refl, sym, subst}
 use mathlib.Core.Bool.{true}
 use mathlib.Core.List.{List}
 use lib.ListN.{length}
-use Rattle.state.specs.declared.types.Done.{Done}
 use Rattle.agree.specs.Good.{Known}
 use Rattle.agree.specs.Rules.{ChainOf}
 use Rattle.agree.specs.View.{view}
@@ -50,10 +49,10 @@ formatted_held w bs e =
     let z = sizes_say (length w.image) (length w.map) e in
     known_held (format_known (Unit {0}) w bs (length w.map) (seed_after w.state.seed) refl z.2 z.0 z.1)
 
-starts_held : (w : World) → Bytes w.image → (VolumeFormat.format w).answer ≡ Fine → Held (after_call VolumeFormat.format w).world
+starts_held : (w : World) → Bytes w.image → (VolumeFormat.format w).answer ≡ fine → Held (after_call VolumeFormat.format w).world
 unfolding VolumeFormat.format
 starts_held w bs =
-    cond_by (λ (o : Outcome Done). o.answer ≡ Fine → Held (ended w o).world) (sizes (length w.image) (length w.map)) _ _ (λ e h. formatted_held w bs e) (λ e h. clash cc)
+    cond_by (λ (o : Outcome Done). o.answer ≡ fine → Held (ended w o).world) (sizes (length w.image) (length w.map)) _ _ (λ e h. formatted_held w bs e) (λ e h. clash cc)
 
 format_held : (w : World) → Held w → Held (after_call VolumeFormat.format w).world
 unfolding VolumeFormat.format

@@ -22,7 +22,6 @@ use lib.Dec.{ltb, eqb}
 use borrow.Author.Tests.{eq-eqb, ne_eqb, eqb-true, eqb-false, ltb-false}
 use Rattle.page.specs.declared.DataHeader.{DataHeader}
 use Rattle.state.specs.declared.types.FileRecord.{FileRecord}
-use Rattle.state.specs.declared.types.Done.{Done}
 use Rattle.reached.specs.Ledger.{Noted, Ledger, put_at, with_files, with_draft}
 use Rattle.reached.proofs.Drafts.{draft_behind, flush_byte, Drafted}
 use Rattle.reached.proofs.Sessions.{write_spelt}
@@ -45,7 +44,7 @@ use Rattle.owners.proofs.Frames.{mounted_change, loose_writer}
 use Rattle.page.specs.Page.{readable, Bytes}
 use Rattle.page.specs.Store.{ran}
 use Rattle.page.proofs.Laws.{ran_append, bytes_drop}
-use Rattle.state.specs.Refusals.{on_done}
+use Rattle.state.specs.Refusals.{on_done, Done}
 use Rattle.state.specs.Values.{file_at, with_file, no_writer, opened, with_cursor, with_writer}
 use Rattle.chain.specs.Steps.{read_at}
 use Rattle.seq.specs.Seq.{below}

@@ -1,4 +1,5 @@
 -- The ledger tells the bytes after flags, rename, truncate, commit, mount and format. Assumes nothing.
+use Rattle.std.specs.Prelude.{Ok, Err}
 use Rattle.seq.specs.Ids.{none}
 use Rattle.state.specs.World.{World, ended, after_call}
 use Rattle.chain.specs.Files.{last_of}
@@ -19,8 +20,6 @@ use lib.Dec.{ltb, eqb}
 use borrow.Author.Tests.{eq-eqb, ne_eqb, lt-ltb, ltb-false}
 use Rattle.state.specs.declared.types.FileRecord.{FileRecord}
 use Rattle.state.specs.declared.types.Table.{Table}
-use Rattle.state.specs.declared.types.Done.{Done}
-use Rattle.state.specs.declared.types.Done.TheVariants.{Done as Fine, Refused}
 use Rattle.reached.proofs.Demand2.{bytes_kept, tab_is, page_same}
 use Rattle.reached.proofs.Ledgers.{Notes}
 use Rattle.reached.proofs.Tells.{Text, Tells, Silent, quiet_same}
@@ -36,7 +35,7 @@ use Rattle.owners.specs.Store.{File, gone, live, Owner, Mem, FileAt}
 use Rattle.owners.proofs.Finding.{mounted_one}
 use Rattle.owners.proofs.Walks.{walk_head, shorter_sub, walk_shorter}
 use Rattle.page.specs.Page.{page_of, readable, header_of}
-use Rattle.state.specs.Refusals.{on_done}
+use Rattle.state.specs.Refusals.{on_done, Done}
 use Rattle.state.specs.Values.{file_at, with_file, flagged, with_flags, opened}
 use Rattle.chain.specs.Steps.{read_at}
 
@@ -138,8 +137,8 @@ commit_notes {N} {w} k g t = by (commit w).answer refl
     C = commit_keeps k.good
 
     by : (a : Done) → (commit w).answer ≡ a → Tells N (ended w (commit w)).world (on_done a (λ why. g) (record { files = g.files; committed = g.files; opened = g.opened; draft = g.draft }))
-    by (Refused why) e = subst (λ (v : World). Tells N v g) (sym ((commit_keeps k.good).stays why e)) t
-    by Fine e =
+    by (Err why) e = subst (λ (v : World). Tells N v g) (sym ((commit_keeps k.good).stays why e)) t
+    by (Ok u) e =
         record {
           files = λ i h.
               subst (λ (T : Table). Text img' (ended w (commit w)).world.state.page_count (as_file (rec_at T i)) (g.files i)) (sym (commit_keeps k.good).table)

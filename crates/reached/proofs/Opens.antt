@@ -1,4 +1,6 @@
 -- The ledger tells the bytes after a writer is opened. Assumes nothing.
+use Rattle.std.specs.Prelude.{Option, Some, None}
+use Rattle.state.specs.Refusals.{Done}
 use Rattle.seq.specs.Ids.{none}
 use Rattle.seq.specs.Seq as SeqSpecs
 use Rattle.state.specs.World.{World, Outcome}
@@ -7,8 +9,6 @@ use Rattle.chain.specs.Links.{start}
 use Rattle.chain.specs.Steps.{at, stays, reaches, breaks, step}
 use Rattle.chain.specs.Steps as steps
 use Rattle.runs.specs.Runs.{part, placed}
-use Rattle.map.specs.declared.Alloc.{Alloc}
-use Rattle.map.specs.declared.Alloc.TheVariants.{Page, Full}
 use Rattle.map.specs.Map.{alloc_of}
 use Rattle.writer.specs.Staging.{too_few}
 use Rattle.writer.specs.Open.{ready_writer, no_page, copy_writer, readied, copied_to, copied, step_from, open_last, open_in, open_writer}
@@ -23,7 +23,6 @@ use lib.ListN.{length, get_or, replicate, length-replicate}
 use lib.Dec.{ltb, eqb}
 use borrow.Author.Tests.{eqb-false}
 use Rattle.state.specs.declared.types.FileRecord.{FileRecord}
-use Rattle.state.specs.declared.types.Done.{Done}
 use Rattle.chain.specs.declared.PagePointer.{PagePointer}
 use Rattle.reached.specs.Asked.{byte, byte_by}
 use Rattle.reached.specs.Ledger.{Noted, Ledger, with_draft, draft_at}
@@ -125,10 +124,10 @@ module _ {N : ℕ} {w : World} (k : Known (Unit {0}) N w) (g : Ledger) (t : Tell
     end_is = file_end w.image f (file_live f some) (k.good.inv.files i).ok stands
 
     to_notes : (q : PagePointer) → ((n : ℕ) → (rec_at w.table i).first_seq ≤ n → n < (rec_at w.table i).header.seq → byte_from w.image w.state.page_count (files.last_of (rec_at w.table i)) n ≡ byte_from w.image w.state.page_count q n)
-        → (a : Alloc) → Notes N w g (with_draft g i (g.files i).bytes) (copied_to w i (rec_at w.table i) q a)
+        → (a : Option ℕ) → Notes N w g (with_draft g i (g.files i).bytes) (copied_to w i (rec_at w.table i) q a)
     unfolding with_writer with_cursor
-    to_notes q h Full = t
-    to_notes q h (Page p) =
+    to_notes q h None = t
+    to_notes q h (Some p) =
         record {
           files = t.files;
           base = t.base;

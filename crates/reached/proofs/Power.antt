@@ -1,4 +1,5 @@
 -- After power-up, and demand 2 by reading; and that an answer of locate depends on the headers of its path alone. Assumes nothing.
+use Rattle.std.specs.Prelude.{Err}
 use Prim.Native.Nat.{ℕ, ◌+◌, ◌≤◌, ◌<◌}
 use mathlib.Core.Path.{◌≡◌, refl, ap, ◌∙◌}
 use mathlib.Core.List.{List}
@@ -6,16 +7,14 @@ use mathlib.Core.Logic.{inl, inr}
 use native.Mathlib.Omega.{arith}
 use lib.ListN.{length}
 use Rattle.page.proofs.Laws.{ran_length}
-use Rattle.state.specs.declared.types.Done.TheVariants.{Done as Fine}
 use Rattle.state.specs.declared.types.Table.{Table}
 use Rattle.state.specs.declared.types.State.{State}
-use Rattle.state.specs.Refusals.{on_done}
+use Rattle.state.specs.Refusals.{on_done, fine}
 use Rattle.state.specs.Checks.{checks}
 use Rattle.state.specs.Values.{file_at}
 use Rattle.state.specs.World.{World, after_call}
 use Rattle.volume.specs.Mount as VolumeMount
 use Rattle.transact.specs.Commit.{commit}
-use Rattle.reader.specs.declared.Located.TheVariants.{Refused}
 use Rattle.reader.specs.declared.Reader.{Reader}
 use Rattle.reader.specs.Locate.{locate_in, locate}
 use Rattle.reader.proofs.Live.{locate_depends}
@@ -35,8 +34,8 @@ use Rattle.reached.proofs.Written.{written_holds, written_file}
 pub path_alone : (w : World) (i n : ℕ) (img : List ℕ) → AgreesOnPath w i n img → locate (with_image w img) i n ≡ locate w i n
 unfolding locate
 path_alone w i n img a =
-    ap (λ (k : ℕ). on_done (checks k (length w.map) w.state w.state.transaction i) Refused (locate_in img w.state.page_count (file_at w.table i) n)) a.size
-    ∙ ap (on_done (checks (length w.image) (length w.map) w.state w.state.transaction i) Refused) (locate_depends w.image img w.state.page_count (file_at w.table i) n a.headers)
+    ap (λ (k : ℕ). on_done (checks k (length w.map) w.state w.state.transaction i) Err (locate_in img w.state.page_count (file_at w.table i) n)) a.size
+    ∙ ap (on_done (checks (length w.image) (length w.map) w.state w.state.transaction i) Err) (locate_depends w.image img w.state.page_count (file_at w.table i) n a.headers)
 
 -- ---- AFTER POWER-UP
 
@@ -54,7 +53,7 @@ format_either (boots {w = w} m t s same r) =
 
 -- ---- DEMAND 2 BY READING
 
-module _ {w : World} (k : Held w) (ok : (commit w).answer ≡ Fine) (m : List ℕ) (t : Table) (s : State) (same : length m ≡ length w.map) where
+module _ {w : World} (k : Held w) (ok : (commit w).answer ≡ fine) (m : List ℕ) (t : Table) (s : State) (same : length m ≡ length w.map) where
   abbrev v : World
   v = (after_call VolumeMount.mount (afresh w m t s)).world
 

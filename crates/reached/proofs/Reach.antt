@@ -1,5 +1,5 @@
 -- Every world that calls reach is sound: its image is of bytes, and while mounted the invariant holds. Assumes nothing.
-use Rattle.state.specs.declared.types.Done.TheVariants.{Done as Fine}
+use Rattle.state.specs.Refusals.{Done, fine}
 use Rattle.state.specs.World.{World, Outcome, ended, after_call}
 use Rattle.seq.specs.Seed.{seed_after}
 use Rattle.volume.specs.Format as VolumeFormat
@@ -13,7 +13,6 @@ use mathlib.Core.Path.{◌≡◌, refl, sym, subst}
 use mathlib.Core.Bool.{Bool, true, false}
 use mathlib.Core.Logic.{◌⊎◌, inl, inr}
 use lib.ListN.{length}
-use Rattle.state.specs.declared.types.Done.{Done}
 use native.Mathlib.Omega.{arith}
 use Rattle.reached.specs.Asked.{Whole}
 use Rattle.agree.specs.Good.{Known}
@@ -65,10 +64,10 @@ format_sound w bs s =
     (λ e. s)
 
 -- where it succeeds nothing need be known before
-pub formatted_sound : (w : World) → Bytes w.image → (VolumeFormat.format w).answer ≡ Fine → Sound (after_call VolumeFormat.format w).world
+pub formatted_sound : (w : World) → Bytes w.image → (VolumeFormat.format w).answer ≡ fine → Sound (after_call VolumeFormat.format w).world
 unfolding VolumeFormat.format
 formatted_sound w bs =
-    cond_by (λ (o : Outcome Done). o.answer ≡ Fine → Sound (ended w o).world) (sizes (length w.image) (length w.map)) _ _
+    cond_by (λ (o : Outcome Done). o.answer ≡ fine → Sound (ended w o).world) (sizes (length w.image) (length w.map)) _ _
     (λ e h. let z = sizes_say (length w.image) (length w.map) e in known_sound (format_known ⊥ w bs (length w.map) (seed_after w.state.seed) refl z.2 z.0 z.1))
     (λ e h. clash cc)
 
@@ -94,10 +93,10 @@ unfolding VolumeMount.mount VolumeMount.mount_with
 mount_sound w s =
     cond_by (λ (o : Outcome Done). Sound (ended w o).world) (sizes (length w.image) (length w.map)) _ _ (λ e. best_sound w s.bytes e) (λ e. s)
 
-pub mounted_sound : (w : World) → Bytes w.image → (VolumeMount.mount w).answer ≡ Fine → Sound (after_call VolumeMount.mount w).world
+pub mounted_sound : (w : World) → Bytes w.image → (VolumeMount.mount w).answer ≡ fine → Sound (after_call VolumeMount.mount w).world
 unfolding VolumeMount.mount VolumeMount.mount_with
 mounted_sound w bs =
-    cond_by (λ (o : Outcome Done). o.answer ≡ Fine → Sound (ended w o).world) (sizes (length w.image) (length w.map)) _ _ (λ e h. best_sound w bs e) (λ e h. clash cc)
+    cond_by (λ (o : Outcome Done). o.answer ≡ fine → Sound (ended w o).world) (sizes (length w.image) (length w.map)) _ _ (λ e h. best_sound w bs e) (λ e h. clash cc)
 
 -- ---- EVERY CALL
 

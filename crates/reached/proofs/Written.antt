@@ -32,8 +32,6 @@ use lib.ListN.{length, get_or}
 use lib.Dec.{eqb}
 use borrow.Author.Tests.{eq-eqb, ne_eqb, eqb-true, eqb-false}
 use Rattle.state.specs.declared.types.FileRecord.{FileRecord}
-use Rattle.state.specs.declared.types.Done.{Done}
-use Rattle.state.specs.declared.types.Done.TheVariants.{Done as Fine}
 use Rattle.reached.specs.Asked.{byte_at}
 use Rattle.reached.proofs.Boots.{boots_as, boot_fine}
 use Rattle.reached.proofs.Held.{Held, boot_known, boot_held, step_held, format_reached}
@@ -55,7 +53,7 @@ use Rattle.owners.proofs.Finding.{mounted_one}
 use Rattle.page.specs.Page.{Bytes}
 use Rattle.page.proofs.Laws.{ran_length}
 use Rattle.state.specs.Checks.{sizes}
-use Rattle.state.specs.Refusals.{on_done}
+use Rattle.state.specs.Refusals.{on_done, Done, fine}
 use Rattle.state.specs.Values.{empty_record, empty_table, file_at, is_empty, in_shape, no_writer, opened}
 use Rattle.state.proofs.Laws.{sizes_say}
 use Rattle.chain.specs.Steps.{read_at, Sought, walk}
@@ -142,7 +140,7 @@ module _ {N : ℕ} {w : World} (k : Known (Unit {0}) N w) (g : Ledger) (t : Tell
       checked_by (Notes N w g (cond (eqb bytes 0) g cut_to)) w w.state.writer.active i _ _ (λ why. t) (λ h. by h.idle h.known (eqb bytes 0))
     where
       by : w.state.writer.active ≡ false → i ≤ 7 → (c : Bool)
-          → Notes N w g (cond c g (with_files g (put_at g.files i (shortened bytes (g.files i))))) (cond c (kept w Fine) (truncate_in w i (file_at w.table i) bytes))
+          → Notes N w g (cond c g (with_files g (put_at g.files i (shortened bytes (g.files i))))) (cond c (kept w fine) (truncate_in w i (file_at w.table i) bytes))
       by off i7 true = t
       by off i7 false = subst (λ (f : FileRecord). Q (truncate_in w i f bytes)) (sym (file_at_lem w.table i (in_table k.good i7))) (in_notes off i7)
 
@@ -164,10 +162,10 @@ format_tells w bs e =
       whose = λ on. clash cc;
     }
 
-starts_tells : (w : World) → Bytes w.image → (VolumeFormat.format w).answer ≡ Fine → Tells (length w.map) (after_call VolumeFormat.format w).world nothing
+starts_tells : (w : World) → Bytes w.image → (VolumeFormat.format w).answer ≡ fine → Tells (length w.map) (after_call VolumeFormat.format w).world nothing
 unfolding VolumeFormat.format
 starts_tells w bs =
-    cond_by (λ (o : Outcome Done). o.answer ≡ Fine → Tells (length w.map) (ended w o).world nothing) (sizes (length w.image) (length w.map)) _ _ (λ e h. format_tells w bs e) (λ e h. clash cc)
+    cond_by (λ (o : Outcome Done). o.answer ≡ fine → Tells (length w.map) (ended w o).world nothing) (sizes (length w.image) (length w.map)) _ _ (λ e h. format_tells w bs e) (λ e h. clash cc)
 
 formatted_fine : (w : World) (g : Ledger) → Tells (length w.map) (ended w (VolumeFormat.formatted w (length w.map) (seed_after w.state.seed))).world nothing → Notes (length w.map) w g nothing (VolumeFormat.formatted w (length w.map) (seed_after w.state.seed))
 unfolding VolumeFormat.formatted
@@ -256,9 +254,9 @@ step_size (calls.rename i j) w = size_of w (RenameCalls.rename w i j)
 step_size (calls.flags i n ok) w = size_of w (RenameCalls.flags w i n)
 step_size calls.commit w = size_of w (CommitCalls.commit w)
 
-format_size : (w : World) → (VolumeFormat.format w).answer ≡ Fine → length w.image ≡ 256 * length w.map
+format_size : (w : World) → (VolumeFormat.format w).answer ≡ fine → length w.image ≡ 256 * length w.map
 unfolding VolumeFormat.format
-format_size w = cond_by (λ (o : Outcome Done). o.answer ≡ Fine → length w.image ≡ 256 * length w.map) (sizes (length w.image) (length w.map)) _ _ (λ e h. (sizes_say (length w.image) (length w.map) e).2) (λ e h. clash cc)
+format_size w = cond_by (λ (o : Outcome Done). o.answer ≡ fine → length w.image ≡ 256 * length w.map) (sizes (length w.image) (length w.map)) _ _ (λ e h. (sizes_say (length w.image) (length w.map) e).2) (λ e h. clash cc)
 
 pub record Holds (w : World) (g : Ledger) : Type 0 where
   pub held : Held w

@@ -1,4 +1,5 @@
 -- What the demands speak of, in document 01's words. Assumes nothing: these are definitions.
+use Rattle.state.specs.Refusals.{fine}
 use Rattle.std.specs.Prelude.{ℕ, ◌+◌, ◌-◌, ◌*◌, ◌≤◌, ◌<◌, ◌≡◌, true, cond, List, [], ◌∷◌, ◌⊎◌, length, get_or}
 use Rattle.seq.specs.Ids.{none}
 use Rattle.page.specs.Page.{page_of, holds}
@@ -8,7 +9,6 @@ use Rattle.state.specs.declared.types.FileRecord.{FileRecord}
 use Rattle.state.specs.declared.types.Table.{Table}
 use Rattle.state.specs.declared.types.State.{State}
 use Rattle.state.specs.declared.types.Writer as StateWriter
-use Rattle.state.specs.declared.types.Done.TheVariants.{Done as Fine}
 use Rattle.state.specs.Values.{file_at}
 use Rattle.state.specs.World.{World, after_call}
 use Rattle.map.specs.Map as map
@@ -101,7 +101,7 @@ afresh w m t s = record { image = (after_call commit w).world.image; map = m; ta
 
 -- its mount succeeds and gives the same eight files
 pub record Again (w : World) (m : List ℕ) (t : Table) (s : State) : Type 0 where
-  pub mounts : (after_call mount (afresh w m t s)).answer ≡ Fine
+  pub mounts : (after_call mount (afresh w m t s)).answer ≡ fine
   pub files : (i : ℕ) → i < 8 → SameFile w (after_call mount (afresh w m t s)).world i
 
 -- ---- demand 3: locating and reading live numbers
@@ -132,6 +132,6 @@ pub record AgreesOnPath (w : World) (i n : ℕ) (img : List ℕ) : Type 0 where
 -- a read of live numbers in world v: never refused, and it gives the byte that each number has in world w
 pub record Reads (w v : World) (r : Reader) (out : List ℕ) : Type 0 where
   pub bytes : List ℕ
-  pub gives : read v r out ≡ record { answer = Fine; reader = moved r (length out); out = bytes }
+  pub gives : read v r out ≡ record { answer = fine; reader = moved r (length out); out = bytes }
   pub size : length bytes ≡ length out
   pub each : (k : ℕ) → k < length out → byte_at w.image w.state.page_count (file_at w.table r.file) (r.seq + k) ≡ byte (get_or bytes k 0)

@@ -8,8 +8,7 @@ use Rattle.state.specs.declared.types.Table.{Table}
 use Rattle.state.specs.declared.types.State.{State}
 use Rattle.writer.specs.Staging.{previous_of}
 use Rattle.reached.specs.Asked.{Byte, byte, byte_by, byte_at}
-use Rattle.state.specs.declared.types.Done.TheVariants.{Done as Fine}
-use Rattle.state.specs.Refusals.{on_done}
+use Rattle.state.specs.Refusals.{on_done, fine}
 use Rattle.state.specs.Values.{file_at}
 use Rattle.state.specs.declared.types.FileRecord.{FileRecord}
 use Rattle.state.specs.World.{World}
@@ -106,7 +105,7 @@ AsNoted w i x = AsFile w (file_at w.table i) x
 
 -- power comes back: the mount of the image as it is succeeds, and every file is as it was committed
 pub record PowersUp (w : World) (g : Ledger) (m : List ℕ) (t : Table) (s : State) : Type 0 where
-  pub mounts : (VolumeMount.mount (powered w m t s)).answer ≡ Fine
+  pub mounts : (VolumeMount.mount (powered w m t s)).answer ≡ fine
   pub files : (i : ℕ) → i < 8 → AsNoted (step calls.mount (powered w m t s)) i (g.committed i)
 
 -- the byte of an open writer at a number: staged, or on the pages behind the staged one

@@ -1,5 +1,7 @@
 -- The bytes of a read, page by page: what one page gives, that fuel beyond the bytes changes nothing, and what a turn of the code's
 -- loop leaves to read. Assumes nothing.
+use Rattle.std.specs.Prelude.{Err}
+use Rattle.state.specs.Refusals.{fine}
 use mathlib.Core.Path.{◌≡◌, refl, sym, ap, ◌∙◌}
 use mathlib.Core.Bool.{true, false}
 use mathlib.Core.List.{List, [], ◌++◌, append-nil, append_assoc}
@@ -16,7 +18,6 @@ use Rattle.page.specs.Page.{page_of}
 use Rattle.chain.specs.declared.PagePointer.{PagePointer}
 use Rattle.state.specs.declared.types.FileRecord.{FileRecord}
 use Rattle.state.specs.declared.types.Refusal.TheVariants.{Damaged}
-use Rattle.state.specs.declared.types.Done.TheVariants.{Done as Fine, Refused}
 use Rattle.reader.specs.declared.Reader.{Reader}
 use Rattle.reader.specs.declared.pages.Opening.{Opening}
 use Rattle.reader.specs.Read.{Opened, shut, shown, open_at, Bytes, none, some, before, here, bytes_here, bytes_by, bytes_from, AfterRead, after_read, read_by}
@@ -221,13 +222,13 @@ pub read_damaged : (r : Reader) (x : AfterRead) (out' out : List ℕ) (whole : B
 read_damaged r x out' out whole e l z = e ∙ rw (z, l)
 
 pub read_zeroed : (r : Reader) (out out' : List ℕ) → out' ≡ replicate (length out) 0
-    → after_read (record { answer = Refused Damaged; reader = r }) out' ≡ read_by r out none
+    → after_read (record { answer = Err Damaged; reader = r }) out' ≡ read_by r out none
 read_zeroed r out out' e = rw e
 
 pub read_done : (img : List ℕ) (count : ℕ) (f : FileRecord) (r : Reader) (out₀ out : List ℕ) (done : ℕ)
     → done ≤ length out → length out ≤ done → length out ≡ length out₀
     → rest img count f r.seq (length out₀) done out ≡ bytes img count f r.seq (length out₀)
-    → after_read (record { answer = Fine; reader = record { file = r.file; seq = r.seq + done } }) out
+    → after_read (record { answer = fine; reader = record { file = r.file; seq = r.seq + done } }) out
     ≡ read_by r out₀ (bytes img count f r.seq (length out₀))
 read_done img count f r out₀ out done h g l inv =
     let e : done ≡ length out₀ = omega arith in

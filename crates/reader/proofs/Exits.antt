@@ -1,4 +1,6 @@
 -- One law for each way out of a call's definition, and what an opened page tells. Assumes nothing.
+use Rattle.std.specs.Prelude.{Result, Ok, Err}
+use Rattle.state.specs.Refusals.{Done, fine}
 use mathlib.Core.Path.{◌≡◌, refl, sym, ap, ◌∙◌}
 use mathlib.Core.Bool.{Bool, true, false, cond, and-eq-true_iff}
 use mathlib.Core.List.{List}
@@ -13,8 +15,6 @@ use Rattle.page.specs.declared.HeaderRead.{HeaderRead}
 use Rattle.page.specs.Page.{Read, unreadable, readable, page_of, header_of, gives, holds}
 use Rattle.page.proofs.Laws.{split, page_length}
 use Rattle.page.proofs.Headers.{given_read, given_none, header_bounds, header_there}
-use Rattle.state.specs.declared.types.Done.{Done}
-use Rattle.state.specs.declared.types.Done.TheVariants.{Done as Fine, Refused}
 use Rattle.state.specs.declared.types.Refusal.{Refusal}
 use Rattle.state.specs.declared.types.Refusal.TheVariants.{Gone, Eof, Short, Damaged}
 use Rattle.state.specs.declared.types.FileRecord.{FileRecord}
@@ -28,9 +28,7 @@ use Rattle.chain.specs.declared.Found.{Found}
 use Rattle.chain.specs.Steps.{read_at, Sought, damaged, at, seek}
 use Rattle.chain.specs.Seek.{found_by, found}
 use Rattle.chain.specs.Files.{last_of}
-use Rattle.reader.specs.declared.Located.TheVariants.{At, Refused as Lost}
-use Rattle.reader.specs.declared.Skipped.{Skipped}
-use Rattle.reader.specs.declared.Skipped.TheVariants.{To, Refused as Stays}
+use Rattle.reader.specs.declared.Located.TheVariants.{At}
 use Rattle.reader.specs.declared.pages.Opening.{Opening}
 use Rattle.reader.specs.declared.Reader.{Reader}
 use Rattle.reader.specs.Locate.{path_of, located_by, locate_in, locate}
@@ -41,32 +39,32 @@ use Rattle.reader.specs.Turn.{opening}
 
 -- ---- checks 1 to 4, by what the code's check answered
 
-pub known_file : (image map : ℕ) (s : State) (busy : Bool) (file : ℕ) (d : Done) → d ≡ checks image map s busy file → d ≡ Fine → file ≤ 7
+pub known_file : (image map : ℕ) (s : State) (busy : Bool) (file : ℕ) (d : Done) → d ≡ checks image map s busy file → d ≡ fine → file ≤ 7
 known_file image map s busy file d is e = (checks_pass image map s busy file (sym is ∙ e)).known
 
 module _ (w : World) (file : ℕ) (d : Done) (is : d ≡ checks (length w.image) (length w.map) w.state w.state.transaction file) where
-  pub locate_refused : (seq : ℕ) (why : Refusal) → d ≡ Refused why → Lost why ≡ locate w file seq
+  pub locate_refused : (seq : ℕ) (why : Refusal) → d ≡ Err why → Err why ≡ locate w file seq
   unfolding locate
   locate_refused seq why e = rw (← is, e)
 
-  pub locate_fine : (seq : ℕ) → d ≡ Fine → locate_in w.image w.state.page_count (file_at w.table file) seq ≡ locate w file seq
+  pub locate_fine : (seq : ℕ) → d ≡ fine → locate_in w.image w.state.page_count (file_at w.table file) seq ≡ locate w file seq
   unfolding locate
   locate_fine seq e = rw (← is, e)
 
 module _ (w : World) (r : Reader) (d : Done) (is : d ≡ checks (length w.image) (length w.map) w.state w.state.transaction r.file) where
-  pub read_refused : (out : List ℕ) (why : Refusal) → d ≡ Refused why → read_kept r out d ≡ read w r out
+  pub read_refused : (out : List ℕ) (why : Refusal) → d ≡ Err why → read_kept r out d ≡ read w r out
   unfolding read
   read_refused out why e = rw (← is, e)
 
-  pub read_fine : (out : List ℕ) → d ≡ Fine → read_in w.image w.state.page_count (file_at w.table r.file) r out ≡ read w r out
+  pub read_fine : (out : List ℕ) → d ≡ fine → read_in w.image w.state.page_count (file_at w.table r.file) r out ≡ read w r out
   unfolding read
   read_fine out e = rw (← is, e)
 
-  pub skip_refused : (n : ℕ) (why : Refusal) → d ≡ Refused why → Stays why ≡ skip w r n
+  pub skip_refused : (n : ℕ) (why : Refusal) → d ≡ Err why → Err why ≡ skip w r n
   unfolding skip
   skip_refused n why e = rw (← is, e)
 
-  pub skip_fine : (n : ℕ) → d ≡ Fine → skip_in w.image w.state.page_count (file_at w.table r.file) r.seq n ≡ skip w r n
+  pub skip_fine : (n : ℕ) → d ≡ fine → skip_in w.image w.state.page_count (file_at w.table r.file) r.seq n ≡ skip w r n
   unfolding skip
   skip_fine n e = rw (← is, e)
 
@@ -76,8 +74,8 @@ skip_unknown w file a b n h = go (checks (length w.image) (length w.map) w.state
   where
     go : (d : Done) → checks (length w.image) (length w.map) w.state w.state.transaction file ≡ d
         → skip w (record { file = file; seq = a }) n ≡ skip w (record { file = file; seq = b }) n
-    go (Refused why) e = sym (skip_refused w (record { file = file; seq = a }) (Refused why) (sym e) n why refl) ∙ skip_refused w (record { file = file; seq = b }) (Refused why) (sym e) n why refl
-    go Fine e = let k = known_file _ _ _ _ file Fine (sym e) refl in absurd (omega arith)
+    go (Err why) e = sym (skip_refused w (record { file = file; seq = a }) (Err why) (sym e) n why refl) ∙ skip_refused w (record { file = file; seq = b }) (Err why) (sym e) n why refl
+    go (Ok u) e = let k = known_file _ _ _ _ file fine (sym e) refl in absurd (omega arith)
 
 -- seeking is a skip of the code's new reader
 skip_first : (w : World) (file n : ℕ) → skip w (reader_at w.table file) n ≡ seek_offset w file n
@@ -85,7 +83,7 @@ unfolding reader_at seek_offset
 skip_first w file n =
     split file 7 (λ h. rw (le-ltb _ _ h)) (λ h. rw (lt-ltb _ _ h) (skip_unknown w file 0 (file_at w.table file).first_seq n h))
 
-pub seek_is : (w : World) (file n : ℕ) (r : Reader) (x : Skipped) → r ≡ reader_at w.table file → x ≡ skip w r n → x ≡ seek_offset w file n
+pub seek_is : (w : World) (file n : ℕ) (r : Reader) (x : Result ℕ Refusal) → r ≡ reader_at w.table file → x ≡ skip w r n → x ≡ seek_offset w file n
 seek_is w file n r x e is = is ∙ ap (λ (y : Reader). skip w y n) e ∙ skip_first w file n
 
 -- ---- by the end of the rule's path
@@ -142,19 +140,19 @@ module _ (img : List ℕ) (count : ℕ) (f : FileRecord) (seq : ℕ) (p : PagePo
     pub locate_at : r.ok ≡ true → At r.page.page_id r.count ≡ locate_in img count f seq
     locate_at t = let e = found_ok t in sym (located_as img count f seq low high fits ∙ rw (e.0, e.1))
 
-    pub locate_lost : r.ok ≡ false → Lost Damaged ≡ locate_in img count f seq
+    pub locate_lost : r.ok ≡ false → Err Damaged ≡ locate_in img count f seq
     locate_lost t = sym (located_as img count f seq low high fits ∙ rw (found_not t))
 
 module _ (img : List ℕ) (count : ℕ) (f : FileRecord) (seq : ℕ) where
-  pub locate_gone : seq < f.first_seq → Lost Gone ≡ locate_in img count f seq
+  pub locate_gone : seq < f.first_seq → Err Gone ≡ locate_in img count f seq
   unfolding locate_in
   locate_gone h = rw (lt-ltb _ _ h)
 
-  pub locate_eof : f.first_seq ≤ seq → f.last_seq ≤ seq → Lost Eof ≡ locate_in img count f seq
+  pub locate_eof : f.first_seq ≤ seq → f.last_seq ≤ seq → Err Eof ≡ locate_in img count f seq
   unfolding locate_in
   locate_eof h k = rw (le-ltb _ _ h, le-leb _ _ k)
 
-  pub locate_shapeless : f.first_seq ≤ seq → seq < f.last_seq → in_shape count f ≡ false → Lost Damaged ≡ locate_in img count f seq
+  pub locate_shapeless : f.first_seq ≤ seq → seq < f.last_seq → in_shape count f ≡ false → Err Damaged ≡ locate_in img count f seq
   unfolding locate_in
   locate_shapeless h k e = rw (le-ltb _ _ h, lt-leb _ _ k, e)
 
@@ -229,22 +227,22 @@ opened_says img count f seq p = go (path_of img count f seq).ends
 -- ---- read
 
 module _ (img : List ℕ) (count : ℕ) (f : FileRecord) (r : Reader) (out : List ℕ) where
-  pub read_none : length out ≡ 0 → read_kept r out Fine ≡ read_in img count f r out
+  pub read_none : length out ≡ 0 → read_kept r out fine ≡ read_in img count f r out
   unfolding read_in
   read_none e = rw (eq-eqb _ _ e)
 
   module _ (some : length out ≡ 0 → ⊥) where
-    pub read_gone : r.seq < f.first_seq → read_kept r out (Refused Gone) ≡ read_in img count f r out
+    pub read_gone : r.seq < f.first_seq → read_kept r out (Err Gone) ≡ read_in img count f r out
     unfolding read_in
     read_gone h = rw (ne_eqb _ _ some, lt-ltb _ _ h)
 
     module _ (low : f.first_seq ≤ r.seq) where
-      pub read_eof : f.last_seq ≤ r.seq → read_kept r out (Refused Eof) ≡ read_in img count f r out
+      pub read_eof : f.last_seq ≤ r.seq → read_kept r out (Err Eof) ≡ read_in img count f r out
       unfolding read_in
       read_eof h = rw (ne_eqb _ _ some, le-ltb _ _ low, le-leb _ _ h)
 
       module _ (high : r.seq < f.last_seq) where
-        pub read_short : f.last_seq - r.seq < length out → read_kept r out (Refused Short) ≡ read_in img count f r out
+        pub read_short : f.last_seq - r.seq < length out → read_kept r out (Err Short) ≡ read_in img count f r out
         unfolding read_in
         read_short h =
             let k : f.last_seq < r.seq + length out = omega arith in
@@ -266,22 +264,22 @@ module _ (img : List ℕ) (count : ℕ) (f : FileRecord) (r : Reader) (out : Lis
 -- ---- skip
 
 module _ (img : List ℕ) (count : ℕ) (f : FileRecord) (seq n : ℕ) where
-  pub skip_none : n ≡ 0 → To seq ≡ skip_in img count f seq n
+  pub skip_none : n ≡ 0 → Ok seq ≡ skip_in img count f seq n
   unfolding skip_in
   skip_none e = rw (eq-eqb _ _ e)
 
   module _ (some : n ≡ 0 → ⊥) where
-    pub skip_gone : seq < f.first_seq → Stays Gone ≡ skip_in img count f seq n
+    pub skip_gone : seq < f.first_seq → Err Gone ≡ skip_in img count f seq n
     unfolding skip_in
     skip_gone h = rw (ne_eqb _ _ some, lt-ltb _ _ h)
 
     module _ (low : f.first_seq ≤ seq) where
-      pub skip_eof : f.last_seq ≤ seq → Stays Eof ≡ skip_in img count f seq n
+      pub skip_eof : f.last_seq ≤ seq → Err Eof ≡ skip_in img count f seq n
       unfolding skip_in
       skip_eof h = rw (ne_eqb _ _ some, le-ltb _ _ low, le-leb _ _ h)
 
       module _ (high : seq < f.last_seq) where
-        pub skip_short : f.last_seq - seq < n → Stays Short ≡ skip_in img count f seq n
+        pub skip_short : f.last_seq - seq < n → Err Short ≡ skip_in img count f seq n
         unfolding skip_in
         skip_short h = let k : f.last_seq < seq + n = omega arith in rw (ne_eqb _ _ some, le-ltb _ _ low, lt-leb _ _ high, lt-ltb _ _ k)
 
@@ -290,12 +288,12 @@ module _ (img : List ℕ) (count : ℕ) (f : FileRecord) (seq n : ℕ) where
         skip_lands h = let k : seq + n ≤ f.last_seq = omega arith in rw (ne_eqb _ _ some, le-ltb _ _ low, lt-leb _ _ high, le-ltb _ _ k)
 
 module _ (img : List ℕ) (count : ℕ) (f : FileRecord) (seq : ℕ) where
-  pub land_end : seq ≡ f.last_seq → To seq ≡ landed img count f seq
+  pub land_end : seq ≡ f.last_seq → Ok seq ≡ landed img count f seq
   unfolding landed
   land_end e = rw (eq-eqb _ _ e)
 
   module _ (ne : seq ≡ f.last_seq → ⊥) where
-    pub land_shapeless : in_shape count f ≡ false → Stays Damaged ≡ landed img count f seq
+    pub land_shapeless : in_shape count f ≡ false → Err Damaged ≡ landed img count f seq
     unfolding landed
     land_shapeless e = rw (ne_eqb _ _ ne, e)
 
@@ -304,8 +302,8 @@ module _ (img : List ℕ) (count : ℕ) (f : FileRecord) (seq : ℕ) where
     landed_by_lem fits = rw (ne_eqb _ _ ne, fits)
 
     module _ (fits : in_shape count f ≡ true) (o : Opening) (is : o ≡ opening seq (open_at img count f seq)) where
-      pub land_open : o.ok ≡ true → To seq ≡ landed img count f seq
+      pub land_open : o.ok ≡ true → Ok seq ≡ landed img count f seq
       land_open t = let e = opening_ok o seq (open_at img count f seq) is t in sym (landed_by_lem fits ∙ rw e.1)
 
-      pub land_shut : o.ok ≡ false → Stays Damaged ≡ landed img count f seq
+      pub land_shut : o.ok ≡ false → Err Damaged ≡ landed img count f seq
       land_shut t = sym (landed_by_lem fits ∙ rw (opening_shut o seq (open_at img count f seq) is t))

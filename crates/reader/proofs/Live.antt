@@ -1,5 +1,7 @@
 -- Reading a file whose pages are a chain by the link rule: the page of each live number is found and opens, so that no read of live
 -- numbers is Damaged, and few headers are read where older pages are full. Assumes nothing.
+use Rattle.std.specs.Prelude.{Ok}
+use Rattle.state.specs.Refusals.{fine}
 use mathlib.Core.Path.{◌≡◌, refl, sym, ap, ◌∙◌}
 use mathlib.Core.Bool.{true}
 use mathlib.Core.List.{List, [], ◌∷◌, ◌++◌}
@@ -17,14 +19,12 @@ use Rattle.chain.specs.Seek.{Right, Agree, most}
 use Rattle.chain.proofs.Traces.{depends}
 use Rattle.chain.proofs.Seeks.{right, few}
 use Rattle.state.specs.declared.types.FileRecord.{FileRecord}
-use Rattle.state.specs.declared.types.Done.TheVariants.{Done as Fine}
 use Rattle.state.specs.Checks.{checks}
 use Rattle.state.specs.Values.{file_at, in_shape}
 use Rattle.state.specs.World.{World}
 use Rattle.state.proofs.Laws.{shape_says}
 use Rattle.reader.specs.declared.Reader.{Reader}
 use Rattle.reader.specs.declared.Located.TheVariants.{At}
-use Rattle.reader.specs.declared.Skipped.TheVariants.{To}
 use Rattle.reader.specs.Skip.{landed_by, skip_in, skip}
 use Rattle.reader.specs.Locate.{path_of, located_by, locate_in, locate}
 use Rattle.reader.specs.Read.{shown, open_at, some, here, bytes_here, AfterRead, moved, read_kept, read_by, read_in, read}
@@ -44,7 +44,7 @@ empty [] e = refl
 empty (x ∷ l) e = absurd (omega arith)
 
 -- an empty read moves nothing
-stays : (r : Reader) (out : List ℕ) → length out ≡ 0 → read_kept r out Fine ≡ read_by r out (some out)
+stays : (r : Reader) (out : List ℕ) → length out ≡ 0 → read_kept r out fine ≡ read_by r out (some out)
 stays r out z = let e : r.seq + 0 ≡ r.seq = omega arith in rw (z, e)
 
 -- a file in shape whose pages, from the last back to the one of first_seq at least, are a chain and stand in the image; older pages
@@ -148,7 +148,7 @@ module _ (img : List ℕ) (count d : ℕ) (f : FileRecord) (l : List PagePointer
       ]
 
   -- so does a skip over them
-  pub live_skip : (seq n : ℕ) → 0 < n → f.first_seq ≤ seq → seq + n ≤ f.last_seq → skip_in img count f seq n ≡ To (seq + n)
+  pub live_skip : (seq n : ℕ) → 0 < n → f.first_seq ≤ seq → seq + n ≤ f.last_seq → skip_in img count f seq n ≡ Ok (seq + n)
   live_skip seq n pos lo hi =
       sym (skip_lands img count f seq n (λ z. omega arith) lo (omega arith) (omega arith))
       ∙ elim (eq-or-lt_of_le hi) [
@@ -164,7 +164,7 @@ live_few img count f l live t lo = few count (read_at img) t (last_of f) l (le_t
 -- ---- the calls, once checks 1 to 4 have passed
 
 abbrev Passes : World → ℕ → Type 0
-Passes w file = checks (length w.image) (length w.map) w.state w.state.transaction file ≡ Fine
+Passes w file = checks (length w.image) (length w.map) w.state w.state.transaction file ≡ fine
 
 abbrev LiveFile : World → ℕ → ℕ → List PagePointer → Type 0
 LiveFile w file d l = Live w.image w.state.page_count d (file_at w.table file) l
@@ -173,10 +173,10 @@ LiveFile w file d l = Live w.image w.state.page_count d (file_at w.table file) l
 pub read_live : (w : World) (r : Reader) (out : List ℕ) (d : ℕ) (l : List PagePointer) → Passes w r.file → LiveFile w r.file d l
     → (file_at w.table r.file).first_seq ≤ r.seq → r.seq + length out ≤ (file_at w.table r.file).last_seq
     → (m : List ℕ) × (bytes w.image w.state.page_count (file_at w.table r.file) r.seq (length out) ≡ some m)
-    × (read w r out ≡ record { answer = Fine; reader = moved r (length out); out = m })
+    × (read w r out ≡ record { answer = fine; reader = moved r (length out); out = m })
 read_live w r out d l ok live lo hi =
     let e = live_read w.image w.state.page_count d (file_at w.table r.file) l live r out lo hi in
-    (e.0, e.1, sym (read_fine w r Fine (sym ok) out refl) ∙ e.2)
+    (e.0, e.1, sym (read_fine w r fine (sym ok) out refl) ∙ e.2)
 
 -- reading as many bytes as x and y have is a read of x, then one of y from where it leaves the reader
 pub read_joined : (w : World) (r : Reader) (x y out : List ℕ) (d : ℕ) (l : List PagePointer) → Passes w r.file → LiveFile w r.file d l
@@ -184,7 +184,7 @@ pub read_joined : (w : World) (r : Reader) (x y out : List ℕ) (d : ℕ) (l : L
     → (file_at w.table r.file).first_seq ≤ r.seq → r.seq + length out ≤ (file_at w.table r.file).last_seq
     → read w r out
     ≡ record {
-      answer = Fine;
+      answer = fine;
       reader = (read w (read w r x).reader y).reader;
       out = (read w r x).out ++ (read w (read w r x).reader y).out;
     }
@@ -208,9 +208,9 @@ read_joined w r x y out d l ok live long lo hi =
 
 -- nor is a skip over some
 pub skip_live : (w : World) (r : Reader) (n d : ℕ) (l : List PagePointer) → Passes w r.file → LiveFile w r.file d l → 0 < n
-    → (file_at w.table r.file).first_seq ≤ r.seq → r.seq + n ≤ (file_at w.table r.file).last_seq → skip w r n ≡ To (r.seq + n)
+    → (file_at w.table r.file).first_seq ≤ r.seq → r.seq + n ≤ (file_at w.table r.file).last_seq → skip w r n ≡ Ok (r.seq + n)
 skip_live w r n d l ok live pos lo hi =
-    sym (skip_fine w r Fine (sym ok) n refl)
+    sym (skip_fine w r fine (sym ok) n refl)
     ∙ live_skip w.image w.state.page_count d (file_at w.table r.file) l live r.seq n pos lo hi
 
 -- locate gives the page of a live number, with few headers read
@@ -221,7 +221,7 @@ locate_live w file t l ok live lo hi =
     let f = file_at w.table file in
     let count = w.state.page_count in (
       length (path_of w.image count f t).path,
-      sym (locate_fine w file Fine (sym ok) t refl) ∙ live_locate w.image count 224 f l live t lo hi,
+      sym (locate_fine w file fine (sym ok) t refl) ∙ live_locate w.image count 224 f l live t lo hi,
       live_few w.image count f l live t lo,
     )
 

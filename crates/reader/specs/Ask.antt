@@ -1,12 +1,11 @@
 -- Small questions of a reader, of the files and of the pages; DECISIONS 46. A reader's offset is `offset_in` of `state`. Assumes nothing: these are definitions.
-use Rattle.std.specs.Prelude.{ℕ, ◌-◌, Bool, cond, not, List, [], ◌∷◌, eqb, ltb, take}
+use Rattle.state.specs.declared.types.Refusal.{Refusal}
+use Rattle.std.specs.Prelude.{ℕ, ◌-◌, Bool, cond, not, List, [], ◌∷◌, eqb, ltb, take, Result, Ok, Err}
 use Rattle.std.specs.Int.Bits.{bit_and}
 use Rattle.map.specs.Map.{free_count}
 use Rattle.state.specs.declared.types.Table.{Table}
 use Rattle.state.specs.declared.types.State.{State}
 use Rattle.state.specs.declared.types.Refusal.TheVariants.{BadFile}
-use Rattle.state.specs.declared.types.Whether.{Whether}
-use Rattle.state.specs.declared.types.Whether.TheVariants.{Yes, No, Refused}
 use Rattle.state.specs.Values.{file_at, is_empty}
 use Rattle.reader.specs.declared.Reader.{Reader}
 use Rattle.reader.specs.Skip.{reader_of}
@@ -16,8 +15,8 @@ unfoldable pub reader_at : Table → ℕ → Reader
 reader_at t file = cond (ltb 7 file) (record { file = file; seq = 0 }) (reader_of file (file_at t file))
 
 -- whether a file is empty: one above 7 is BadFile
-unfoldable pub empty_says : Table → ℕ → Whether
-empty_says t file = cond (ltb 7 file) (Refused BadFile) (cond (is_empty (file_at t file)) Yes No)
+unfoldable pub empty_says : Table → ℕ → Result Bool Refusal
+empty_says t file = cond (ltb 7 file) (Err BadFile) (cond (is_empty (file_at t file)) (Ok true) (Ok false))
 
 -- a file above 7 has no flags
 unfoldable pub flags_at : Table → ℕ → ℕ

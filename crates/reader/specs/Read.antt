@@ -1,15 +1,13 @@
 -- Read, by document 01, "Reading and search": it opens the located page, copies up to its end, and locates again.
 -- Assumes nothing: these are definitions.
-use Rattle.std.specs.Prelude.{ℕ, zero, suc, ◌+◌, ◌-◌, min, cond, List, [], ◌∷◌, ◌++◌, eqb, leb, ltb, length, replicate}
+use Rattle.std.specs.Prelude.{ℕ, zero, suc, ◌+◌, ◌-◌, min, cond, List, [], ◌∷◌, ◌++◌, eqb, leb, ltb, length, replicate, Err}
 use Rattle.runs.specs.Runs.{part}
 use Rattle.page.specs.Page.{Read, unreadable, readable, page_of, holds}
 use Rattle.chain.specs.declared.PagePointer.{PagePointer}
 use Rattle.chain.specs.Steps.{read_at, Sought, damaged, at}
 use Rattle.state.specs.declared.types.FileRecord.{FileRecord}
 use Rattle.state.specs.declared.types.Refusal.TheVariants.{Gone, Eof, Short, Damaged}
-use Rattle.state.specs.declared.types.Done.{Done}
-use Rattle.state.specs.declared.types.Done.TheVariants.{Done as Fine, Refused}
-use Rattle.state.specs.Refusals.{numbers}
+use Rattle.state.specs.Refusals.{numbers, Done, fine}
 use Rattle.state.specs.Values.{file_at, in_shape}
 use Rattle.state.specs.World.{World, checked}
 use Rattle.reader.specs.declared.Reader.{Reader}
@@ -80,21 +78,21 @@ moved r n = record { file = r.file; seq = r.seq + n }
 
 -- a Damaged read leaves the whole output zero
 abbrev pub read_by : Reader → List ℕ → Bytes → AfterRead
-read_by r out none = record { answer = Refused Damaged; reader = r; out = replicate (length out) 0 }
-read_by r out (some l) = record { answer = Fine; reader = moved r (length out); out = l }
+read_by r out none = record { answer = Err Damaged; reader = r; out = replicate (length out) 0 }
+read_by r out (some l) = record { answer = fine; reader = moved r (length out); out = l }
 
 unfoldable pub read_in : List ℕ → ℕ → FileRecord → Reader → List ℕ → AfterRead
 read_in img count f r out =
-    cond (eqb (length out) 0) (read_kept r out Fine)
-    (cond (ltb r.seq f.first_seq) (read_kept r out (Refused Gone))
-    (cond (leb f.last_seq r.seq) (read_kept r out (Refused Eof))
-    (cond (ltb f.last_seq (r.seq + length out)) (read_kept r out (Refused Short))
+    cond (eqb (length out) 0) (read_kept r out fine)
+    (cond (ltb r.seq f.first_seq) (read_kept r out (Err Gone))
+    (cond (leb f.last_seq r.seq) (read_kept r out (Err Eof))
+    (cond (ltb f.last_seq (r.seq + length out)) (read_kept r out (Err Short))
     (cond (in_shape count f) (read_by r out (bytes_from img count f (length out) r.seq (length out)))
     (read_by r out none)))))
 
 unfoldable pub read : World → Reader → List ℕ → AfterRead
 read w r out =
-    checked w w.state.transaction r.file (λ why. read_kept r out (Refused why))
+    checked w w.state.transaction r.file (λ why. read_kept r out (Err why))
     (read_in w.image w.state.page_count (file_at w.table r.file) r out)
 
 -- ---- the same in document 01's numbers: the answer's, then the reader's two; and the output

@@ -1,4 +1,6 @@
 -- What the exits of the calls come to. Assumes nothing.
+use Rattle.std.specs.Prelude.{Err}
+use Rattle.state.specs.Refusals.{Done, fine}
 use mathlib.Core.Path.{◌≡◌, refl, sym, ◌∙◌, ap}
 use mathlib.Core.Bool.{Bool, true, false, cond}
 use Prim.Native.Nat.{ℕ}
@@ -14,13 +16,11 @@ use Rattle.state.specs.declared.types.FileRecord.{FileRecord}
 use Rattle.state.specs.declared.types.Search.{Search}
 use Rattle.state.specs.declared.types.Refusal.{Refusal}
 use Rattle.state.specs.declared.types.Refusal.TheVariants.{Damaged, NoSearch}
-use Rattle.state.specs.declared.types.Done.{Done}
-use Rattle.state.specs.declared.types.Done.TheVariants.{Done as Fine, Refused as Barred}
 use Rattle.state.specs.Values.{file_at, is_empty, in_shape, no_search, with_search}
 use Rattle.state.specs.Checks.{checks}
 use Rattle.state.specs.World.{World, Outcome, kept, after_call, ended as finished}
 use Rattle.search.specs.declared.Answer.{Answer}
-use Rattle.search.specs.declared.Answer.TheVariants.{Offer as Offers, End, Refused}
+use Rattle.search.specs.declared.Answer.TheVariants.{Offer as Offers, End}
 use Rattle.search.specs.declared.SearchOut.{SearchOut}
 use Rattle.search.specs.declared.hunt.Kind.TheVariants.{Offered, Ended, Broken}
 use Rattle.search.specs.declared.hunt.Hunted.{Hunted}
@@ -48,10 +48,10 @@ module _ (old : Search) (s : Stand) (x : Sought) (r : Hunted) (e : r ≡ told x)
       go ended f = rw u
       go broken f = let v = ap (λ (h : Hunted). h.kind) f in let z : ◌≡◌ {A = ℕ} 0 1 = cc in absurd (omega arith)
 
-  pub reply_broken : r.kind ≡ Broken → record { answer = Refused Damaged; search = old } ≡ replied old s x
+  pub reply_broken : r.kind ≡ Broken → record { answer = Err Damaged; search = old } ≡ replied old s x
   reply_broken k = go x e
     where
-      go : (y : Sought) → r ≡ told y → record { answer = Refused Damaged; search = old } ≡ replied old s y
+      go : (y : Sought) → r ≡ told y → record { answer = Err Damaged; search = old } ≡ replied old s y
       go (offered l o) f = let v = ap (λ (h : Hunted). h.kind) f in let z : ◌≡◌ {A = ℕ} 0 1 = cc in absurd (omega arith)
       go ended f = let v = ap (λ (h : Hunted). h.kind) f in let z : ◌≡◌ {A = ℕ} 0 1 = cc in absurd (omega arith)
       go broken f = refl
@@ -68,7 +68,7 @@ module _ (old : Search) (count : ℕ) (read : ℕ → Read) (i : ℕ) (f : FileR
   unfolding begun
   begun_hunts n h s u = rw (u, ne_eqb f.last_page none n, h)
 
-  pub begun_broken : (f.last_page ≡ none → ⊥) → in_shape count f ≡ false → record { answer = Refused Damaged; search = old } ≡ begun old count read i f
+  pub begun_broken : (f.last_page ≡ none → ⊥) → in_shape count f ≡ false → record { answer = Err Damaged; search = old } ≡ begun old count read i f
   unfolding begun
   begun_broken n h = rw (ne_eqb f.last_page none n, h)
 
@@ -100,13 +100,13 @@ module _ (w : World) (i : ℕ) where
   -- ---- start
 
   -- a start that the checks refuse leaves the search
-  pub start_refused : (r : SearchOut) (why : Refusal) → Checks ≡ Barred why → r ≡ record { answer = Refused why; search = w.state.search }
+  pub start_refused : (r : SearchOut) (why : Refusal) → Checks ≡ Err why → r ≡ record { answer = Err why; search = w.state.search }
       → after_search r w.image w.map w.table w.state ≡ after_call (λ w. start w i) w
   unfolding start with_search
   start_refused r why e u = rw (u, e)
 
   -- else it is what the file's record gives
-  pub start_replied : (r : SearchOut) → Checks ≡ Fine → r ≡ begun w.state.search w.state.page_count (read_at w.image) i (file_at w.table i)
+  pub start_replied : (r : SearchOut) → Checks ≡ fine → r ≡ begun w.state.search w.state.page_count (read_at w.image) i (file_at w.table i)
       → after_search r w.image w.map w.table w.state ≡ after_call (λ w. start w i) w
   unfolding start
   start_replied r e u = rw (u, e) (ap (finished w) (made_started w i (file_at w.table i)))
@@ -115,23 +115,23 @@ module _ (w : World) (i : ℕ) where
 
 module _ (w : World) (f : Search → Stand) where
   -- an answer that the checks refuse leaves the search
-  pub answer_refused : (r : SearchOut) (why : Refusal) → Checks w 0 ≡ Barred why → r ≡ record { answer = Refused why; search = w.state.search }
+  pub answer_refused : (r : SearchOut) (why : Refusal) → Checks w 0 ≡ Err why → r ≡ record { answer = Err why; search = w.state.search }
       → after_search r w.image w.map w.table w.state ≡ after_call (λ w. answered w f) w
   unfolding answered with_search
   answer_refused r why e u = rw (u, e)
 
   -- so does one where no position is on offer
-  pub answer_none : (r : SearchOut) → Checks w 0 ≡ Fine → w.state.search.active ≡ false → r ≡ record { answer = Refused NoSearch; search = w.state.search }
+  pub answer_none : (r : SearchOut) → Checks w 0 ≡ fine → w.state.search.active ≡ false → r ≡ record { answer = Err NoSearch; search = w.state.search }
       → after_search r w.image w.map w.table w.state ≡ after_call (λ w. answered w f) w
   unfolding answered with_search
   answer_none r e a u = rw (u, e, a)
 
-  answered_is : Checks w 0 ≡ Fine → w.state.search.active ≡ true → answered w f ≡ sought w (f w.state.search)
+  answered_is : Checks w 0 ≡ fine → w.state.search.active ≡ true → answered w f ≡ sought w (f w.state.search)
   unfolding answered
-  answered_is e a = rw e (ap (λ (b : Bool). cond b (sought w (f w.state.search)) (kept w (Refused NoSearch))) a)
+  answered_is e a = rw e (ap (λ (b : Bool). cond b (sought w (f w.state.search)) (kept w (Err NoSearch))) a)
 
   -- else it is what the hunt gives from where the answer puts the search
-  pub answer_replied : (r : SearchOut) (s : Stand) → Checks w 0 ≡ Fine → w.state.search.active ≡ true → s ≡ f w.state.search
+  pub answer_replied : (r : SearchOut) (s : Stand) → Checks w 0 ≡ fine → w.state.search.active ≡ true → s ≡ f w.state.search
       → r ≡ replied w.state.search s (hunt w.state.page_count (read_at w.image) s.left s.right s.links)
       → after_search r w.image w.map w.table w.state ≡ after_call (λ w. answered w f) w
   unfolding sought

@@ -1,4 +1,5 @@
 -- Numbers lose nothing: a search's answer can be read back from them, so that a promise kept in numbers is kept. Assumes nothing.
+use Rattle.std.specs.Prelude.{Err}
 use Prim.Native.Nat.{ℕ}
 use mathlib.Core.Path.{◌≡◌, refl}
 use mathlib.Core.Bool.{cond}
@@ -10,18 +11,18 @@ use Rattle.state.specs.declared.types.State.{State}
 use Rattle.state.specs.World.{World, Outcome, after_call}
 use Rattle.state.proofs.Numbers.{by_code, by_number, read_back, outcome_same}
 use Rattle.search.specs.declared.Answer.{Answer}
-use Rattle.search.specs.declared.Answer.TheVariants.{Offer as Offers, End, Refused}
+use Rattle.search.specs.declared.Answer.TheVariants.{Offer as Offers, End}
 use Rattle.search.specs.declared.SearchOut.{SearchOut}
 use Rattle.search.specs.Search.{answer_numbers}
 use Rattle.search.specs.Told.{after_search, yields, promised}
 
 abbrev answer_in : List ℕ → Answer
-answer_in l = by_code (get_or l 0 0) (cond (eqb (get_or l 1 0) 0) (End (get_or l 2 0)) (Offers (get_or l 2 0))) Refused
+answer_in l = by_code (get_or l 0 0) (cond (eqb (get_or l 1 0) 0) (End (get_or l 2 0)) (Offers (get_or l 2 0))) Err
 
 answer_back : (a : Answer) → answer_in (answer_numbers a) ≡ a
 answer_back (Offers seq) = refl
 answer_back (End seq) = refl
-answer_back (Refused why) = by_number (End 0) Refused why
+answer_back (Err why) = by_number (End 0) Err why
 
 pub answer_same : (a b : Answer) → answer_numbers a ≡ answer_numbers b → a ≡ b
 answer_same = read_back answer_numbers answer_in answer_back

@@ -1,4 +1,5 @@
 -- The calls: each answer leaves less room, and on a file whose chain obeys the link rule none is Damaged. Assumes nothing.
+use Rattle.std.specs.Prelude.{Ok, Err}
 use mathlib.Core.Path.{◌≡◌, refl, ◌∙◌, ap, subst}
 use mathlib.Core.Bool.{Bool, true, false, cond, ◌||◌, not}
 use mathlib.Core.List.{List, ◌∷◌}
@@ -20,15 +21,13 @@ use Rattle.state.specs.declared.types.Search.{Search}
 use Rattle.state.specs.declared.types.State.{State}
 use Rattle.state.specs.declared.types.Refusal.{Refusal}
 use Rattle.state.specs.declared.types.Refusal.TheVariants.{BadSize, NotMounted, Busy, BadFile, Damaged, NoSearch}
-use Rattle.state.specs.declared.types.Done.{Done}
-use Rattle.state.specs.declared.types.Done.TheVariants.{Done as Fine, Refused as Barred}
 use Rattle.state.specs.Values.{file_at, is_empty, in_shape, no_search, with_search}
 use Rattle.state.specs.Checks.{search_ok, is_mounted, wrong_size, checks}
-use Rattle.state.specs.Refusals.{on_done}
+use Rattle.state.specs.Refusals.{on_done, Done, fine}
 use Rattle.state.specs.World.{World, Outcome, kept}
 use Rattle.state.proofs.Laws.{shape_says}
 use Rattle.search.specs.declared.Answer.{Answer}
-use Rattle.search.specs.declared.Answer.TheVariants.{Offer as Offers, End, Refused}
+use Rattle.search.specs.declared.Answer.TheVariants.{Offer as Offers, End}
 use Rattle.search.specs.declared.hunt.Offer.{Offer}
 use Rattle.search.specs.declared.search.Stand.{Stand}
 use Rattle.search.specs.Hunt.{Sought, offered, ended, broken, hunt}
@@ -39,11 +38,11 @@ use Rattle.search.proofs.Sound.{hunt_sane}
 
 -- ---- the checks that all calls share say nothing of damage
 
-barred : (image map : ℕ) (s : State) (busy : Bool) (file : ℕ) → checks image map s busy file ≡ Barred Damaged → ⊥
+barred : (image map : ℕ) (s : State) (busy : Bool) (file : ℕ) → checks image map s busy file ≡ Err Damaged → ⊥
 unfolding checks
 barred image map s busy file = go (wrong_size image map (is_mounted s) s.pages) (is_mounted s) busy (ltb 7 file)
   where
-    go : (a m b f : Bool) → cond a (Barred BadSize) (cond m (cond b (Barred Busy) (cond f (Barred BadFile) Fine)) (Barred NotMounted)) ≡ Barred Damaged → ⊥
+    go : (a m b f : Bool) → cond a (Err BadSize) (cond m (cond b (Err Busy) (cond f (Err BadFile) fine)) (Err NotMounted)) ≡ Err Damaged → ⊥
     go true m b f e = let z : ◌≡◌ {A = ℕ} 0 1 = cc in omega arith
     go false false b f e = let z : ◌≡◌ {A = ℕ} 0 1 = cc in omega arith
     go false true true f e = let z : ◌≡◌ {A = ℕ} 0 1 = cc in omega arith
@@ -52,31 +51,31 @@ barred image map s busy file = go (wrong_size image map (is_mounted s) s.pages) 
 
 -- ---- by cases: a refusal of the checks, no position on offer, or the hunt
 
-module _ (w : World) (P : Outcome Answer → Type 0) (refused : (why : Refusal) → (why ≡ Damaged → ⊥) → P (kept w (Refused why))) where
+module _ (w : World) (P : Outcome Answer → Type 0) (refused : (why : Refusal) → (why ≡ Damaged → ⊥) → P (kept w (Err why))) where
   by_checks : (i : ℕ) (go : Outcome Answer) → P go
-      → P (on_done (checks (length w.image) (length w.map) w.state w.state.transaction i) (λ why. kept w (Refused why)) go)
+      → P (on_done (checks (length w.image) (length w.map) w.state w.state.transaction i) (λ why. kept w (Err why)) go)
   by_checks i out p = go (checks (length w.image) (length w.map) w.state w.state.transaction i) refl
     where
-      go : (d : Done) → checks (length w.image) (length w.map) w.state w.state.transaction i ≡ d → P (on_done d (λ why. kept w (Refused why)) out)
-      go (Barred why) e = refused why (λ u. barred _ _ _ _ _ (e ∙ ap Barred u))
-      go Fine e = p
+      go : (d : Done) → checks (length w.image) (length w.map) w.state w.state.transaction i ≡ d → P (on_done d (λ why. kept w (Err why)) out)
+      go (Err why) e = refused why (λ u. barred _ _ _ _ _ (e ∙ ap Err u))
+      go (Ok u) e = p
 
   by_answered : (f : Search → Stand) → P (sought w (f w.state.search)) → P (answered w f)
   unfolding answered
   by_answered f p = by_checks 0 _ (go w.state.search.active)
     where
-      go : (a : Bool) → P (cond a (sought w (f w.state.search)) (kept w (Refused NoSearch)))
+      go : (a : Bool) → P (cond a (sought w (f w.state.search)) (kept w (Err NoSearch)))
       go true = p
       go false = refused NoSearch (λ e. let z : ◌≡◌ {A = ℕ} 0 1 = cc in omega arith)
 
   by_start : (i : ℕ) → P (answering w (End (file_at w.table i).first_seq) no_search)
-      → (in_shape w.state.page_count (file_at w.table i) ≡ false → P (kept w (Refused Damaged)))
+      → (in_shape w.state.page_count (file_at w.table i) ≡ false → P (kept w (Err Damaged)))
       → P (sought w (start_of i (file_at w.table i))) → P (start w i)
   unfolding start start_in
   by_start i q r p = by_checks i _ (go (is_empty (file_at w.table i)) (in_shape w.state.page_count (file_at w.table i)) refl)
     where
       go : (a b : Bool) → in_shape w.state.page_count (file_at w.table i) ≡ b
-          → P (cond a (answering w (End (file_at w.table i).first_seq) no_search) (cond b (sought w (start_of i (file_at w.table i))) (kept w (Refused Damaged))))
+          → P (cond a (answering w (End (file_at w.table i).first_seq) no_search) (cond b (sought w (start_of i (file_at w.table i))) (kept w (Err Damaged))))
       go true b e = q
       go false true e = p
       go false false e = r e
@@ -84,13 +83,13 @@ module _ (w : World) (P : Outcome Answer → Type 0) (refused : (why : Refusal) 
 -- ---- what a hunt from a stand comes to
 
 abbrev Undamaged : Outcome Answer → Type 0
-Undamaged o = o.answer ≡ Refused Damaged → ⊥
+Undamaged o = o.answer ≡ Err Damaged → ⊥
 
 -- where a position is offered, the search is such
 abbrev Leaves : (ℕ → Search → Type 0) → Outcome Answer → Type 0
 Leaves Q o = (m : ℕ) → o.answer ≡ Offers m → Q m o.state.search
 
-refused_leaves : (w : World) (Q : ℕ → Search → Type 0) (why : Refusal) → Leaves Q (kept w (Refused why))
+refused_leaves : (w : World) (Q : ℕ → Search → Type 0) (why : Refusal) → Leaves Q (kept w (Err why))
 refused_leaves w Q why m e = let z : ◌≡◌ {A = ℕ} 0 1 = cc in absurd (omega arith)
 
 ended_leaves : (w : World) (Q : ℕ → Search → Type 0) (n : ℕ) → Leaves Q (answering w (End n) no_search)
@@ -99,7 +98,7 @@ ended_leaves w Q n m e = let z : ◌≡◌ {A = ℕ} 0 1 = cc in absurd (omega a
 ended_undamaged : (w : World) (n : ℕ) → Undamaged (answering w (End n) no_search)
 ended_undamaged w n e = let z : ◌≡◌ {A = ℕ} 0 1 = cc in omega arith
 
-refused_undamaged : (w : World) (why : Refusal) → (why ≡ Damaged → ⊥) → Undamaged (kept w (Refused why))
+refused_undamaged : (w : World) (why : Refusal) → (why ≡ Damaged → ⊥) → Undamaged (kept w (Err why))
 refused_undamaged w why n e = n (cc)
 
 -- a hunt from a stand offers
@@ -221,7 +220,7 @@ module _ (w : World) (i : ℕ) (l : List PagePointer) (h : FileOn w.state.page_c
   First = (file_at w.table i).first_seq
 
   -- a start on such a file is never Damaged
-  pub start_undamaged : (start w i).answer ≡ Refused Damaged → ⊥
+  pub start_undamaged : (start w i).answer ≡ Err Damaged → ⊥
   start_undamaged =
       by_start w Undamaged (refused_undamaged w) i (ended_undamaged w First) (λ u. let z : ◌≡◌ {A = ℕ} 0 1 = cc h.shape in absurd (omega arith))
       (sought_undamaged w From (never w.state.page_count (read_at w.image) First From (start_place _ _ _ l h) (omega arith)))
@@ -240,12 +239,12 @@ module _ (w : World) (first : ℕ) (h : Held w.state.page_count (read_at w.image
   past = omega (arith, h.left, h.standing.after, h.standing.starts, h.standing.reaches)
 
   -- an answer to a held search is never Damaged, and leaves it held
-  pub left_undamaged : (left w).answer ≡ Refused Damaged → ⊥
+  pub left_undamaged : (left w).answer ≡ Err Damaged → ⊥
   left_undamaged =
       by_answered w Undamaged (refused_undamaged w) left_of
       (sought_undamaged w (left_of w.state.search) (never w.state.page_count (read_at w.image) first (left_of w.state.search) h.low h.left))
 
-  pub right_undamaged : (right w).answer ≡ Refused Damaged → ⊥
+  pub right_undamaged : (right w).answer ≡ Err Damaged → ⊥
   right_undamaged =
       by_answered w Undamaged (refused_undamaged w) right_of
       (sought_undamaged w (right_of w.state.search) (never w.state.page_count (read_at w.image) first (right_of w.state.search) h.right past))

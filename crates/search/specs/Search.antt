@@ -1,5 +1,5 @@
 -- Search: start, left and right, by document 01, "Reading and search"; DECISIONS 6 and 23. Assumes nothing: these are definitions.
-use Rattle.std.specs.Prelude.{ℕ, ◌+◌, Bool, true, false, cond, List, [], ◌∷◌}
+use Rattle.std.specs.Prelude.{ℕ, ◌+◌, Bool, true, false, cond, List, [], ◌∷◌, Err}
 use Rattle.chain.specs.Files.{last_of}
 use Rattle.chain.specs.Links.{links_after}
 use Rattle.chain.specs.Steps.{read_at}
@@ -10,7 +10,7 @@ use Rattle.state.specs.Refusals.{number}
 use Rattle.state.specs.Values.{file_at, is_empty, in_shape, no_search, with_search}
 use Rattle.state.specs.World.{World, Outcome, kept, checked}
 use Rattle.search.specs.declared.Answer.{Answer}
-use Rattle.search.specs.declared.Answer.TheVariants.{Offer as Offers, End, Refused}
+use Rattle.search.specs.declared.Answer.TheVariants.{Offer as Offers, End}
 use Rattle.search.specs.declared.hunt.Offer.{Offer}
 use Rattle.search.specs.declared.search.Stand.{Stand}
 use Rattle.search.specs.Hunt.{Sought, offered, ended, broken, hunt}
@@ -19,7 +19,7 @@ use Rattle.search.specs.Hunt.{Sought, offered, ended, broken, hunt}
 abbrev pub answer_numbers : Answer → List ℕ
 answer_numbers (Offers seq) = 0 ∷ 1 ∷ seq ∷ []
 answer_numbers (End seq) = 0 ∷ 0 ∷ seq ∷ []
-answer_numbers (Refused why) = number why ∷ []
+answer_numbers (Err why) = number why ∷ []
 
 abbrev pub offering : Stand → ℕ → Offer → Search
 offering s left o =
@@ -43,7 +43,7 @@ answering w a q = record { answer = a; stores = []; map = w.map; table = w.table
 abbrev pub sought_by : World → Stand → Sought → Outcome Answer
 sought_by w s (offered left o) = answering w (Offers o.mid) (offering s left o)
 sought_by w s ended = answering w (End s.result) no_search
-sought_by w s broken = kept w (Refused Damaged)
+sought_by w s broken = kept w (Err Damaged)
 
 unfoldable pub sought : World → Stand → Outcome Answer
 sought w s = sought_by w s (hunt w.state.page_count (read_at w.image) s.left s.right s.links)
@@ -56,10 +56,10 @@ start_of i f = record { file = i; left = f.first_seq; right = f.last_seq; links 
 unfoldable pub start_in : World → ℕ → FileRecord → Outcome Answer
 start_in w i f =
     cond (is_empty f) (answering w (End f.first_seq) no_search)
-    (cond (in_shape w.state.page_count f) (sought w (start_of i f)) (kept w (Refused Damaged)))
+    (cond (in_shape w.state.page_count f) (sought w (start_of i f)) (kept w (Err Damaged)))
 
 unfoldable pub start : World → ℕ → Outcome Answer
-start w i = checked w w.state.transaction i (λ why. kept w (Refused why)) (start_in w i (file_at w.table i))
+start w i = checked w w.state.transaction i (λ why. kept w (Err why)) (start_in w i (file_at w.table i))
 
 -- ---- left sets right to the offered page's seq and links; right sets result to the offered start and left past curr_high
 
@@ -72,8 +72,8 @@ right_of q = record { file = q.file; left = q.high + 1; right = q.right; links =
 -- NoSearch where no position is on offer
 unfoldable pub answered : World → (Search → Stand) → Outcome Answer
 answered w f =
-    checked w w.state.transaction 0 (λ why. kept w (Refused why))
-    (cond w.state.search.active (sought w (f w.state.search)) (kept w (Refused NoSearch)))
+    checked w w.state.transaction 0 (λ why. kept w (Err why))
+    (cond w.state.search.active (sought w (f w.state.search)) (kept w (Err NoSearch)))
 
 abbrev pub left : World → Outcome Answer
 left w = answered w left_of

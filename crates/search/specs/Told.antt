@@ -1,5 +1,5 @@
 -- What the code's structs say of a hunt, and what its inner functions say of a page and of a level. Assumes nothing: these are definitions.
-use Rattle.std.specs.Prelude.{◌≡◌, cond, List, ℕ, zero, suc, ◌+◌, ◌<◌, get_or, replicate}
+use Rattle.std.specs.Prelude.{◌≡◌, cond, List, ℕ, zero, suc, ◌+◌, ◌<◌, get_or, replicate, Err}
 use Rattle.seq.specs.Ids.{none}
 use Rattle.seq.specs.Seq.{below, span}
 use Rattle.page.specs.declared.DataHeader.{DataHeader}
@@ -15,7 +15,7 @@ use Rattle.state.specs.declared.types.Refusal.TheVariants.{Damaged}
 use Rattle.state.specs.Values.{no_search, with_search, is_empty, in_shape}
 use Rattle.state.specs.World.{World, Outcome, After, after_call, before, in_numbers}
 use Rattle.search.specs.declared.Answer.{Answer}
-use Rattle.search.specs.declared.Answer.TheVariants.{Offer as Offers, End, Refused}
+use Rattle.search.specs.declared.Answer.TheVariants.{Offer as Offers, End}
 use Rattle.search.specs.declared.SearchOut.{SearchOut}
 use Rattle.search.specs.declared.hunt.Offer.{Offer}
 use Rattle.search.specs.declared.hunt.Seen.{Seen}
@@ -55,7 +55,7 @@ told broken = record { kind = Broken; left = 0; offer = no_offer }
 abbrev pub replied : Search → Stand → Sought → SearchOut
 replied old s (offered left o) = record { answer = Offers o.mid; search = offering s left o }
 replied old s ended = record { answer = End s.result; search = no_search }
-replied old s broken = record { answer = Refused Damaged; search = old }
+replied old s broken = record { answer = Err Damaged; search = old }
 
 -- ---- a page on the way
 
@@ -103,4 +103,4 @@ begun old count read i f =
     cond (is_empty f) (record { answer = End f.first_seq; search = no_search })
     (cond (in_shape count f)
     (replied old (start_of i f) (hunt count read f.first_seq f.last_seq (links_after (last_of f) f.last_seq)))
-    (record { answer = Refused Damaged; search = old }))
+    (record { answer = Err Damaged; search = old }))

@@ -1,4 +1,6 @@
 -- What calls share: a refusal changes nothing, and what the passed checks say. Assumes nothing.
+use Rattle.std.specs.Prelude.{Err}
+use Rattle.state.specs.Refusals.{fine}
 use mathlib.Core.Path.{◌≡◌, refl}
 use mathlib.Core.Bool.{Bool, true, false, cond, ◌&&◌, ◌||◌, not, and-eq-true_iff}
 use Prim.Native.Nat.{ℕ, ◌+◌, ◌*◌, ◌<◌, ◌≤◌}
@@ -12,7 +14,6 @@ use Rattle.state.specs.declared.types.Search.{Search}
 use Rattle.state.specs.declared.types.State.{State}
 use Rattle.state.specs.declared.types.Refusal.{Refusal}
 use Rattle.state.specs.declared.types.Refusal.TheVariants.{BadSize, NotMounted, Busy, BadFile}
-use Rattle.state.specs.declared.types.Done.TheVariants.{Done as Fine, Refused}
 use Rattle.state.specs.Values.{in_shape}
 use Rattle.state.specs.Checks.{sizes, id_ok, writer_ok, search_ok, is_mounted, wrong_size, checks}
 use Rattle.state.specs.World.{World, ended, kept, refuse}
@@ -146,13 +147,13 @@ pub record Passed (image map : ℕ) (s : State) (busy : Bool) (file : ℕ) : Typ
   pub idle : busy ≡ false
   pub known : file ≤ 7
 
-pub checks_pass : (image map : ℕ) (s : State) (busy : Bool) (file : ℕ) → checks image map s busy file ≡ Fine → Passed image map s busy file
+pub checks_pass : (image map : ℕ) (s : State) (busy : Bool) (file : ℕ) → checks image map s busy file ≡ fine → Passed image map s busy file
 unfolding checks wrong_size
 checks_pass image map s busy file =
     go (sizes image map) refl (is_mounted s) refl (eqb map s.pages) refl busy refl (ltb 7 file) refl
   where
     go : (a : Bool) → sizes image map ≡ a → (m : Bool) → is_mounted s ≡ m → (e : Bool) → eqb map s.pages ≡ e → (b : Bool) → busy ≡ b → (f : Bool) → ltb 7 file ≡ f
-        → cond (not a || m && not e) (Refused BadSize) (cond m (cond b (Refused Busy) (cond f (Refused BadFile) Fine)) (Refused NotMounted)) ≡ Fine
+        → cond (not a || m && not e) (Err BadSize) (cond m (cond b (Err Busy) (cond f (Err BadFile) fine)) (Err NotMounted)) ≡ fine
         → Passed image map s busy file
     go true ha true hm true he false hb false hf h =
         record {

@@ -1,5 +1,6 @@
 -- Numbers lose nothing: an answer can be read back from them, so that two answers with the same numbers are equal, and so are
 -- two outcomes that one promise allows. Assumes nothing.
+use Rattle.std.specs.Prelude.{Bool, true, false, Result, Ok, Err}
 use Prim.Native.Nat.{ℕ}
 use mathlib.Core.Path.{◌≡◌, refl, sym, ap, ◌∙◌}
 use mathlib.Core.Bool.{cond}
@@ -8,14 +9,8 @@ use lib.Dec.{eqb}
 use lib.ListN.{get_or}
 use Rattle.state.specs.declared.types.Refusal.{Refusal}
 use Rattle.state.specs.declared.types.Refusal.TheVariants.{BadSize, NotMounted, Busy, BadFile, Damaged, Eof, Short, NoRoom, SeqEnd, NoSearch, Gone, Range}
-use Rattle.state.specs.declared.types.Done.{Done}
-use Rattle.state.specs.declared.types.Done.TheVariants.{Done as Fine, Refused}
 use Rattle.state.specs.declared.types.Out.{Out}
-use Rattle.state.specs.declared.types.Asked.{Asked}
-use Rattle.state.specs.declared.types.Asked.TheVariants.{Number, Refused as Unasked}
-use Rattle.state.specs.declared.types.Whether.{Whether}
-use Rattle.state.specs.declared.types.Whether.TheVariants.{Yes, No, Refused as Untold}
-use Rattle.state.specs.Refusals.{number, numbers, asked_numbers, whether_numbers}
+use Rattle.state.specs.Refusals.{number, numbers, asked_numbers, whether_numbers, Done, fine}
 use Rattle.state.specs.World.{World, Outcome, After, after_call, after, in_numbers, yields, promised}
 
 -- ---- reading back
@@ -52,31 +47,31 @@ read_back f g back a b e = sym (back a) ∙ ap g e ∙ back b
 pub number_same : (x y : Refusal) → number x ≡ number y → x ≡ y
 number_same = read_back number (λ n. by_code n Range (λ why. why)) (by_number Range (λ why. why))
 
-done_back : (d : Done) → by_code (get_or (numbers d) 0 0) Fine Refused ≡ d
-done_back Fine = refl
-done_back (Refused why) = by_number Fine Refused why
+done_back : (d : Done) → by_code (get_or (numbers d) 0 0) fine Err ≡ d
+done_back (Ok u) = refl
+done_back (Err why) = by_number fine Err why
 
 pub numbers_same : (x y : Done) → numbers x ≡ numbers y → x ≡ y
-numbers_same = read_back numbers (λ l. by_code (get_or l 0 0) Fine Refused) done_back
+numbers_same = read_back numbers (λ l. by_code (get_or l 0 0) fine Err) done_back
 
 -- ---- small questions
 
-asked_back : (a : Asked) → by_code (get_or (asked_numbers a) 0 0) (Number (get_or (asked_numbers a) 1 0)) Unasked ≡ a
-asked_back (Number n) = refl
-asked_back (Unasked why) = by_number (Number 0) Unasked why
+asked_back : (a : Result ℕ Refusal) → by_code (get_or (asked_numbers a) 0 0) (Ok (get_or (asked_numbers a) 1 0)) Err ≡ a
+asked_back (Ok n) = refl
+asked_back (Err why) = by_number (Ok 0) Err why
 
-pub asked_same : (x y : Asked) → asked_numbers x ≡ asked_numbers y → x ≡ y
-asked_same = read_back asked_numbers (λ l. by_code (get_or l 0 0) (Number (get_or l 1 0)) Unasked) asked_back
+pub asked_same : (x y : Result ℕ Refusal) → asked_numbers x ≡ asked_numbers y → x ≡ y
+asked_same = read_back asked_numbers (λ l. by_code (get_or l 0 0) (Ok (get_or l 1 0)) Err) asked_back
 
-abbrev whether_in : List ℕ → Whether
-whether_in l = by_code (get_or l 0 0) (cond (eqb (get_or l 1 0) 0) No Yes) Untold
+abbrev whether_in : List ℕ → Result Bool Refusal
+whether_in l = by_code (get_or l 0 0) (cond (eqb (get_or l 1 0) 0) (Ok false) (Ok true)) Err
 
-whether_back : (a : Whether) → whether_in (whether_numbers a) ≡ a
-whether_back Yes = refl
-whether_back No = refl
-whether_back (Untold why) = by_number No Untold why
+whether_back : (a : Result Bool Refusal) → whether_in (whether_numbers a) ≡ a
+whether_back (Ok true) = refl
+whether_back (Ok false) = refl
+whether_back (Err why) = by_number (Ok false) Err why
 
-pub whether_same : (x y : Whether) → whether_numbers x ≡ whether_numbers y → x ≡ y
+pub whether_same : (x y : Result Bool Refusal) → whether_numbers x ≡ whether_numbers y → x ≡ y
 whether_same = read_back whether_numbers whether_in whether_back
 
 -- ---- outcomes

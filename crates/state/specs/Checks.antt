@@ -1,13 +1,12 @@
 -- Checks 1 to 4, in document 01's order, and when a state counts as mounted (DECISIONS 3). Assumes nothing: these are definitions.
-use Rattle.std.specs.Prelude.{ℕ, ◌+◌, ◌*◌, Bool, cond, ◌&&◌, ◌||◌, not, leb, ltb, eqb}
+use Rattle.state.specs.Refusals.{Done, fine}
+use Rattle.std.specs.Prelude.{ℕ, ◌+◌, ◌*◌, Bool, cond, ◌&&◌, ◌||◌, not, leb, ltb, eqb, Err}
 use Rattle.seq.specs.Ids.{none}
 use Rattle.seq.specs.Seq.{limit}
 use Rattle.state.specs.declared.types.Writer.{Writer}
 use Rattle.state.specs.declared.types.Search.{Search}
 use Rattle.state.specs.declared.types.State.{State}
 use Rattle.state.specs.declared.types.Refusal.TheVariants.{BadSize, NotMounted, Busy, BadFile}
-use Rattle.state.specs.declared.types.Done.{Done}
-use Rattle.state.specs.declared.types.Done.TheVariants.{Done as Fine, Refused}
 
 -- 4 to 1,024 pages, and an image and a map of that many
 unfoldable pub sizes : ℕ → ℕ → Bool
@@ -46,9 +45,9 @@ wrong_size image map mounted pages = not (sizes image map) || mounted && not (eq
 -- checks 1 to 4
 unfoldable pub checks : ℕ → ℕ → State → Bool → ℕ → Done
 checks image map s busy file =
-    cond (wrong_size image map (is_mounted s) s.pages) (Refused BadSize)
+    cond (wrong_size image map (is_mounted s) s.pages) (Err BadSize)
     (cond (is_mounted s)
-    (cond busy (Refused Busy)
-    (cond (ltb 7 file) (Refused BadFile)
-    Fine))
-    (Refused NotMounted))
+    (cond busy (Err Busy)
+    (cond (ltb 7 file) (Err BadFile)
+    fine))
+    (Err NotMounted))

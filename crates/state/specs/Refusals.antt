@@ -1,13 +1,14 @@
 -- Refusals, by document 01, "Refusal numbers". Assumes nothing: these are definitions.
-use Rattle.std.specs.Prelude.{ℕ, List, [], ◌∷◌}
+use Rattle.std.specs.Prelude.{ℕ, Bool, true, false, List, [], ◌∷◌, Result, Ok, Err}
 use Rattle.state.specs.declared.types.Refusal.{Refusal}
 use Rattle.state.specs.declared.types.Refusal.TheVariants.{BadSize, NotMounted, Busy, BadFile, Damaged, Eof, Short, NoRoom, SeqEnd, NoSearch, Gone, Range}
-use Rattle.state.specs.declared.types.Done.{Done}
-use Rattle.state.specs.declared.types.Done.TheVariants.{Done as Fine, Refused}
-use Rattle.state.specs.declared.types.Asked.{Asked}
-use Rattle.state.specs.declared.types.Asked.TheVariants.{Number, Refused as Unasked}
-use Rattle.state.specs.declared.types.Whether.{Whether}
-use Rattle.state.specs.declared.types.Whether.TheVariants.{Yes, No, Refused as Untold}
+
+-- what a call answers that gives no value, and the shared checks: done, or refused
+abbrev pub Done : Type 0
+Done = Result (Unit {0}) Refusal
+
+abbrev pub fine : Done
+fine = Ok tt
 
 -- document 01's number of each
 abbrev pub number : Refusal → ℕ
@@ -26,8 +27,8 @@ number Range = 12
 
 -- an answer in document 01's numbers: 0, or the refusal's number; then the values that come with it
 abbrev pub numbers : Done → List ℕ
-numbers Fine = 0 ∷ []
-numbers (Refused why) = number why ∷ []
+numbers (Ok u) = 0 ∷ []
+numbers (Err why) = number why ∷ []
 
 -- a refusal's place in the order of checking: 1, 2, 3, 4, 12, 11, 6, 7, 9, 8, 10, 5
 abbrev pub place : Refusal → ℕ
@@ -46,16 +47,16 @@ place Damaged = 11
 
 -- by what a check found
 abbrev pub on_done {ℓ} : {A : Type ℓ} → Done → (Refusal → A) → A → A
-on_done (Refused why) refuse go = refuse why
-on_done Fine refuse go = go
+on_done (Err why) refuse go = refuse why
+on_done (Ok u) refuse go = go
 
 -- ---- the answers of small questions, by document 01's numbers: 0 and the value, yes as 1 and no as 0, or the refusal's number alone
 
-abbrev pub asked_numbers : Asked → List ℕ
-asked_numbers (Number n) = 0 ∷ n ∷ []
-asked_numbers (Unasked why) = number why ∷ []
+abbrev pub asked_numbers : Result ℕ Refusal → List ℕ
+asked_numbers (Ok n) = 0 ∷ n ∷ []
+asked_numbers (Err why) = number why ∷ []
 
-abbrev pub whether_numbers : Whether → List ℕ
-whether_numbers Yes = 0 ∷ 1 ∷ []
-whether_numbers No = 0 ∷ 0 ∷ []
-whether_numbers (Untold why) = number why ∷ []
+abbrev pub whether_numbers : Result Bool Refusal → List ℕ
+whether_numbers (Ok true) = 0 ∷ 1 ∷ []
+whether_numbers (Ok false) = 0 ∷ 0 ∷ []
+whether_numbers (Err why) = number why ∷ []

@@ -1,6 +1,7 @@
 -- Files, their table and the state, by document 01, "Files and transactions", and DECISIONS 3, 4 and 12.
 -- Assumes nothing: these are definitions.
-use Rattle.std.specs.Prelude.{ℕ, ◌+◌, ◌-◌, Bool, true, false, cond, ◌&&◌, [], leb, ltb, eqb, get_or, set, replicate}
+use Rattle.state.specs.declared.types.Refusal.{Refusal}
+use Rattle.std.specs.Prelude.{ℕ, ◌+◌, ◌-◌, Bool, true, false, cond, ◌&&◌, [], leb, ltb, eqb, get_or, set, replicate, Result, Ok, Err}
 use Rattle.seq.specs.Ids.{none}
 use Rattle.page.specs.Page.{no_header}
 use Rattle.state.specs.declared.types.FileRecord.{FileRecord}
@@ -9,8 +10,6 @@ use Rattle.state.specs.declared.types.Writer.{Writer}
 use Rattle.state.specs.declared.types.Search.{Search}
 use Rattle.state.specs.declared.types.State.{State}
 use Rattle.state.specs.declared.types.Refusal.TheVariants.{BadFile, Range}
-use Rattle.state.specs.declared.types.Asked.{Asked}
-use Rattle.state.specs.declared.types.Asked.TheVariants.{Number, Refused}
 
 -- ---- files
 
@@ -35,11 +34,11 @@ abbrev pub is_empty : FileRecord → Bool
 is_empty f = eqb f.last_page none
 
 -- how far a number lies behind a file's first one: a file above 7 is BadFile, a number below the first is Range
-unfoldable pub offset_in : Table → ℕ → ℕ → Asked
+unfoldable pub offset_in : Table → ℕ → ℕ → Result ℕ Refusal
 offset_in t file n =
-    cond (ltb 7 file) (Refused BadFile)
-    (cond (ltb n (file_at t file).first_seq) (Refused Range)
-    (Number (n - (file_at t file).first_seq)))
+    cond (ltb 7 file) (Err BadFile)
+    (cond (ltb n (file_at t file).first_seq) (Err Range)
+    (Ok (n - (file_at t file).first_seq)))
 
 -- whether a call may follow the record: its last page is below page_count, that page's length is 1 to 224 and leads to last_seq,
 -- and first_seq is below last_seq

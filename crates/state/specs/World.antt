@@ -1,14 +1,12 @@
 -- All that a call can see and change, and what a call's definition says of it. Assumes nothing: these are definitions.
-use Rattle.std.specs.Prelude.{ℕ, List, [], length, Bool}
+use Rattle.std.specs.Prelude.{ℕ, List, [], length, Bool, Err}
 use Rattle.page.specs.Store.{Store, ran}
 use Rattle.state.specs.declared.types.Table.{Table}
 use Rattle.state.specs.declared.types.State.{State}
 use Rattle.state.specs.declared.types.Refusal.{Refusal}
-use Rattle.state.specs.declared.types.Done.{Done}
-use Rattle.state.specs.declared.types.Done.TheVariants.{Refused}
 use Rattle.state.specs.declared.types.Out.{Out}
 use Rattle.state.specs.Checks.{checks}
-use Rattle.state.specs.Refusals.{numbers, on_done}
+use Rattle.state.specs.Refusals.{numbers, on_done, Done}
 
 pub record World : Type 0 where
   pub image : List ℕ
@@ -43,7 +41,7 @@ kept w a = record { answer = a; stores = []; map = w.map; table = w.table; state
 
 -- a refusal changes nothing
 abbrev pub refuse : World → Refusal → Outcome Done
-refuse w why = kept w (Refused why)
+refuse w why = kept w (Err why)
 
 -- checks 1 to 4 of a world, then the rest
 abbrev pub checked {ℓ} : {A : Type ℓ} → World → Bool → ℕ → (Refusal → A) → A → A

@@ -1,14 +1,15 @@
 // Checks 1 to 4, in document 01's order, as every call makes them.
+#![tactic(auto, unfolding(crate::specs::Checks::sizes, crate::specs::Checks::writer_ok, crate::specs::Checks::search_ok, crate::specs::Checks::is_mounted, crate::specs::Checks::wrong_size, crate::specs::Checks::checks))]
+
 ghost use Rattle.std.specs.Prelude.{◌≡◌};
 ghost use Rattle.state.specs.Checks.{sizes, id_ok, writer_ok, search_ok, is_mounted, wrong_size, checks};
 
-use crate::types::{Done, Refusal, Search, State, Writer};
+use crate::types::{Refusal, Search, State, Writer};
 
 // What no sequence number passes.
 const LIMIT: u32 = 4294967294;
 
 // Check 1, as format and mount make it.
-#[tactic(auto, unfolding(crate::specs::Checks::sizes))]
 pub fn sizes_fit(image: usize, map: usize) -> bool
     ensures { result ≡ sizes image map }
 {
@@ -21,11 +22,11 @@ pub fn sizes_fit(image: usize, map: usize) -> bool
 fn id_ok(count: u16, id: u16) -> bool
     ensures { result ≡ id_ok count id }
 {
-    (id == 65535) | (id < count)
+    (id == seq::ids::NONE) | (id < count)
 }
 
-fn writer_ok(count: u16, w: Writer) -> bool
-    ensures { result ≡ writer_ok count w }
+fn writer_ok(count: u16, w: &Writer) -> bool
+    ensures { result ≡ writer_ok count w.now }
 {
     let end = (w.seq as u64) + (w.length as u64);
     let ids = id_ok(count, w.page) & id_ok(count, w.copied) & id_ok(count, w.previous);
@@ -33,8 +34,8 @@ fn writer_ok(count: u16, w: Writer) -> bool
         | ((w.file <= 7) & (w.length <= 224) & ids & (end <= LIMIT as u64) & (w.stored <= w.seq))
 }
 
-fn search_ok(q: Search) -> bool
-    ensures { result ≡ search_ok q }
+fn search_ok(q: &Search) -> bool
+    ensures { result ≡ search_ok q.now }
 {
     let ends = (q.left <= LIMIT) & (q.right <= LIMIT) & (q.result <= LIMIT);
     let offer = (q.low <= LIMIT) & (q.mid <= LIMIT) & (q.high <= LIMIT);
@@ -42,17 +43,15 @@ fn search_ok(q: Search) -> bool
 }
 
 // A state counts as mounted if its flag says so and each of its numbers is in range.
-pub fn is_mounted(s: State) -> bool
-    ensures { result ≡ is_mounted s }
+pub fn is_mounted(s: &State) -> bool
+    ensures { result ≡ is_mounted s.now }
 {
-    let w = s.writer;
-    let q = s.search;
     let pages = (4 <= s.pages)
         & (s.pages <= 1024)
         & (1 <= s.page_count)
         & (s.page_count <= s.pages);
     let places = (s.meta_page < s.page_count) & (s.cursor < s.page_count);
-    s.mounted & pages & places & writer_ok(s.page_count, w) & search_ok(q)
+    s.mounted & pages & places & writer_ok(s.page_count, &s.writer) & search_ok(&s.search)
 }
 
 // Check 1, as every other call makes it.
@@ -63,22 +62,21 @@ fn wrong_size(image: usize, map: usize, mounted: bool, pages: u16) -> bool
 }
 
 // All four.
-#[tactic(auto, unfolding(crate::specs::Checks::checks))]
-pub fn check(image: usize, map: usize, s: State, busy: bool, file: u8) -> Done
-    ensures { result ≡ checks image map s busy file }
+pub fn check(image: usize, map: usize, s: &State, busy: bool, file: u8) -> Result<(), Refusal>
+    ensures { result ≡ checks image map s.now busy file }
 {
     let mounted = is_mounted(s);
     if wrong_size(image, map, mounted, s.pages) {
-        return Done::Refused(Refusal::BadSize);
+        return Err(Refusal::BadSize);
     }
     if !mounted {
-        return Done::Refused(Refusal::NotMounted);
+        return Err(Refusal::NotMounted);
     }
     if busy {
-        return Done::Refused(Refusal::Busy);
+        return Err(Refusal::Busy);
     }
     if 7 < file {
-        return Done::Refused(Refusal::BadFile);
+        return Err(Refusal::BadFile);
     }
-    Done::Done
+    Ok(())
 }

@@ -1,4 +1,6 @@
 // Flags: by value, and in place in the caller's table.
+#![tactic(auto, unfolding(crate::specs::Values::flagged, crate::specs::Values::with_flags, crate::specs::Values::with_file))]
+
 ghost use Rattle.std.specs.Prelude.{◌≡◌};
 ghost use Rattle.state.specs.Values.{flagged, with_flags};
 
@@ -8,29 +10,25 @@ use crate::types::{FileRecord, Table};
 fn record_flags(f: FileRecord, flags: u8) -> FileRecord
     ensures { result ≡ flagged f flags }
 {
-    let mut g = f;
-    if g.last_page == 65535 {
-        return g;
+    if f.is_empty() || f.flags == flags {
+        return f;
     }
-    if g.flags == flags {
-        return g;
+    FileRecord {
+        dirty: true,
+        flags,
+        ..f
     }
-    g.flags = flags;
-    g.dirty = true;
-    g
 }
 
 // The table with one file's flags changed, and the table where there is no such file.
 pub fn table_flags(table: Table, file: usize, flags: u8) -> Table
     ensures { result ≡ with_flags table file flags }
 {
-    let mut t = table;
     if 8 <= file {
-        return t;
+        return table;
     }
-    let f = t.files[file];
-    let g = record_flags(f, flags);
-    t.files[file] = g;
+    let mut t = table;
+    t.files[file] = record_flags(t.files[file], flags);
     t
 }
 

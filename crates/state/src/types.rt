@@ -77,7 +77,8 @@ pub struct State {
     pub search: Search,
 }
 
-#[derive(Clone, Copy)]
+// Why a call did nothing. Its number, as C and scripts have it, is `u8::from`.
+#[derive(Clone, Copy, Debug, PartialEq, Eq)]
 pub enum Refusal {
     BadSize,
     NotMounted,
@@ -93,32 +94,10 @@ pub enum Refusal {
     Range,
 }
 
-// The answer of a call that gives no value, and of the shared checks.
-#[derive(Clone, Copy)]
-pub enum Done {
-    Done,
-    Refused(Refusal),
-}
-
-// The answer of a small question that asks for a number.
-#[derive(Clone, Copy)]
-pub enum Asked {
-    Number(u64),
-    Refused(Refusal),
-}
-
-// The answer of one that asks whether.
-#[derive(Clone, Copy)]
-pub enum Whether {
-    Yes,
-    No,
-    Refused(Refusal),
-}
-
 // What a call hands back: its answer, and table and state as they are then.
 #[derive(Clone, Copy)]
 pub struct Out {
-    pub answer: Done,
+    pub answer: Result<(), Refusal>,
     pub table: Table,
     pub state: State,
 }

@@ -1,11 +1,16 @@
 // Fixed values, and the changes of a state that several calls make.
+#![tactic(auto, unfolding(crate::specs::Values::empty_record, crate::specs::Values::empty_table, crate::specs::Values::no_writer, crate::specs::Values::no_search, crate::specs::Values::unmounted, crate::specs::Values::settled, crate::specs::Values::opened, crate::specs::Values::closed, crate::specs::Values::in_shape, crate::specs::Values::offset_in))]
+
 ghost use Rattle.std.specs.Prelude.{◌≡◌, ◌<◌};
 ghost use Rattle.page.specs.Page.{no_header};
-ghost use Rattle.state.specs.Refusals.{number, asked_numbers};
-ghost use Rattle.state.specs.Values.{empty_record, empty_table, no_writer, no_search, unmounted, settled, opened, closed, with_cursor, in_shape, offset_in};
+ghost use Rattle.state.specs.Refusals.{number};
+ghost use Rattle.state.specs.Values.{empty_record, empty_table, no_writer, no_search, unmounted, settled, opened, closed, in_shape, is_empty, offset_in};
 
-use crate::types::{Asked, FileRecord, Refusal, Search, State, Table, Writer};
+use crate::types::{FileRecord, Refusal, Search, State, Table, Writer};
 use page::DataHeader;
+
+// No record starts on a page whose header has this boundary.
+pub const NO_BOUNDARY: u16 = 65535;
 
 // The header of no page.
 pub fn no_header() -> DataHeader
@@ -22,11 +27,10 @@ pub fn no_header() -> DataHeader
 pub fn empty_record() -> FileRecord
     ensures { result ≡ empty_record }
 {
-    let header = no_header();
     FileRecord {
         dirty: false,
-        last_page: 65535,
-        header,
+        last_page: seq::ids::NONE,
+        header: no_header(),
         first_seq: 0,
         last_seq: 0,
         flags: 0,
@@ -36,23 +40,23 @@ pub fn empty_record() -> FileRecord
 pub fn empty_table() -> Table
     ensures { result ≡ empty_table }
 {
-    let f = empty_record();
-    Table { files: [f; 8] }
+    Table {
+        files: [empty_record(); 8],
+    }
 }
 
 pub fn no_writer() -> Writer
     ensures { result ≡ no_writer }
 {
-    let previous_header = no_header();
     Writer {
         active: false,
         file: 0,
         seq: 0,
-        page: 65535,
-        previous: 65535,
-        previous_header,
-        copied: 65535,
-        boundary: 65535,
+        page: seq::ids::NONE,
+        previous: seq::ids::NONE,
+        previous_header: no_header(),
+        copied: seq::ids::NONE,
+        boundary: NO_BOUNDARY,
         ended: false,
         stored: 0,
         length: 0,
@@ -68,10 +72,10 @@ pub fn no_search() -> Search
         file: 0,
         left: 0,
         right: 0,
-        right_links: [65535; 9],
+        right_links: [seq::ids::NONE; 9],
         result: 0,
         low: 0,
-        low_links: [65535; 9],
+        low_links: [seq::ids::NONE; 9],
         mid: 0,
         high: 0,
     }
@@ -81,8 +85,6 @@ pub fn no_search() -> Search
 pub fn new_state(seed: u32) -> State
     ensures { result ≡ unmounted seed }
 {
-    let writer = no_writer();
-    let search = no_search();
     State {
         mounted: false,
         pages: 0,
@@ -92,8 +94,8 @@ pub fn new_state(seed: u32) -> State
         cursor: 0,
         seed,
         transaction: false,
-        writer,
-        search,
+        writer: no_writer(),
+        search: no_search(),
     }
 }
 
@@ -101,8 +103,6 @@ pub fn new_state(seed: u32) -> State
 pub fn settle(pages: u16, count: u16, meta: u16, seq: u32, cursor: u16, seed: u32) -> State
     ensures { result ≡ settled pages count meta seq cursor seed }
 {
-    let writer = no_writer();
-    let search = no_search();
     State {
         mounted: true,
         pages,
@@ -112,8 +112,8 @@ pub fn settle(pages: u16, count: u16, meta: u16, seq: u32, cursor: u16, seed: u3
         cursor,
         seed,
         transaction: false,
-        writer,
-        search,
+        writer: no_writer(),
+        search: no_search(),
     }
 }
 
@@ -121,27 +121,37 @@ pub fn settle(pages: u16, count: u16, meta: u16, seq: u32, cursor: u16, seed: u3
 pub fn open_transaction(state: State) -> State
     ensures { result ≡ opened state }
 {
-    let mut s = state;
-    let search = no_search();
-    s.transaction = true;
-    s.search = search;
-    s
+    State {
+        transaction: true,
+        search: no_search(),
+        ..state
+    }
 }
 
 // It ends.
 pub fn close_transaction(state: State) -> State
     ensures { result ≡ closed state }
 {
-    let mut s = state;
-    s.transaction = false;
-    s
+    State {
+        transaction: false,
+        ..state
+    }
+}
+
+impl FileRecord {
+    // A file is empty exactly if its last page is none.
+    pub fn is_empty(&self) -> bool
+        ensures { result ≡ is_empty self.now }
+    {
+        self.last_page == seq::ids::NONE
+    }
 }
 
 // Whether a call may follow the record.
-pub fn in_shape(f: FileRecord, count: usize) -> bool
-    ensures { result ≡ in_shape count f }
+pub fn in_shape(f: &FileRecord, count: usize) -> bool
+    ensures { result ≡ in_shape count f.now }
 {
-    let h = f.header;
+    let h = &f.header;
     let end = (h.seq as u64) + (h.length as u64);
     ((f.last_page as usize) < count)
         & (1 <= h.length)
@@ -151,36 +161,37 @@ pub fn in_shape(f: FileRecord, count: usize) -> bool
 }
 
 // How far a number lies behind a file's first one: for the small questions of reader and writer.
-pub fn offset_in(table: Table, file: u8, n: u64) -> Asked
-    ensures { asked_numbers result ≡ asked_numbers (offset_in table file n) }
+pub fn offset_in(table: &Table, file: u8, n: u64) -> Result<u64, Refusal>
+    ensures { result ≡ offset_in table.now file n }
 {
     if 7 < file {
-        return Asked::Refused(Refusal::BadFile);
+        return Err(Refusal::BadFile);
     }
-    let f = table.files[file as usize];
-    let first = f.first_seq as u64;
+    let first = table.files[file as usize].first_seq as u64;
     if n < first {
-        return Asked::Refused(Refusal::Range);
+        return Err(Refusal::Range);
     }
-    Asked::Number(n - first)
+    Ok(n - first)
 }
 
 // Document 01's number of a refusal.
-pub fn number_of(why: Refusal) -> u8
-    ensures { result ≡ number why }
-{
-    match why {
-        Refusal::BadSize => 1,
-        Refusal::NotMounted => 2,
-        Refusal::Busy => 3,
-        Refusal::BadFile => 4,
-        Refusal::Damaged => 5,
-        Refusal::Eof => 6,
-        Refusal::Short => 7,
-        Refusal::NoRoom => 8,
-        Refusal::SeqEnd => 9,
-        Refusal::NoSearch => 10,
-        Refusal::Gone => 11,
-        Refusal::Range => 12,
+impl From<Refusal> for u8 {
+    ghost from_gives = { λ why result. result ≡ number why };
+
+    fn from(why: Refusal) -> u8 {
+        match why {
+            Refusal::BadSize => 1,
+            Refusal::NotMounted => 2,
+            Refusal::Busy => 3,
+            Refusal::BadFile => 4,
+            Refusal::Damaged => 5,
+            Refusal::Eof => 6,
+            Refusal::Short => 7,
+            Refusal::NoRoom => 8,
+            Refusal::SeqEnd => 9,
+            Refusal::NoSearch => 10,
+            Refusal::Gone => 11,
+            Refusal::Range => 12,
+        }
     }
 }

@@ -1,4 +1,5 @@
 -- What truncate, rename and flags leave as it was: the image, other files, and the pages of the numbers that remain. Assumes nothing.
+use Rattle.std.specs.Prelude.{Ok, Err}
 use mathlib.Core.Path.{◌≡◌, refl, sym, ◌∙◌, ap, subst}
 use mathlib.Core.Bool.{Bool, true, false, cond}
 use mathlib.Core.List.{List, [], ◌∷◌, ◌++◌}
@@ -15,10 +16,8 @@ use Rattle.chain.proofs.Walks.{walk_visits, walk_prefix}
 use Rattle.state.specs.declared.types.FileRecord.{FileRecord}
 use Rattle.state.specs.declared.types.Table.{Table}
 use Rattle.state.specs.declared.types.Refusal.TheVariants.{BadFile, Damaged}
-use Rattle.state.specs.declared.types.Done.{Done}
-use Rattle.state.specs.declared.types.Done.TheVariants.{Done as Fine, Refused}
 use Rattle.state.specs.Values.{file_at, with_file, is_empty, in_shape, flagged, with_flags}
-use Rattle.state.specs.Refusals.{on_done}
+use Rattle.state.specs.Refusals.{on_done, Done, fine}
 use Rattle.state.specs.Checks.{checks}
 use Rattle.state.specs.World.{World, Outcome, kept, refuse}
 use Rattle.transact.specs.Truncate.{emptied, others, unreached, held_all, new_first, changed_file, truncated_by, truncate_in, truncate}
@@ -37,8 +36,8 @@ abbrev seen : World → ℕ → Done
 seen w i = checks (length w.image) (length w.map) w.state w.state.writer.active i
 
 changed_checks : (w : World) (i : ℕ) (d : Done) (o : Outcome Done) → Changed w i o → Changed w i (on_done d (refuse w) o)
-changed_checks w i (Refused why) o c = nothing (Refused why)
-changed_checks w i Fine o c = c
+changed_checks w i (Err why) o c = nothing (Err why)
+changed_checks w i (Ok u) o c = c
 
 changed_cond : (w : World) (i : ℕ) (b : Bool) (o p : Outcome Done) → Changed w i o → Changed w i p → Changed w i (cond b o p)
 changed_cond w i true o p c d = c
@@ -48,16 +47,16 @@ pub truncate_changed : (w : World) (i bytes : ℕ) → Changed w i (truncate w i
 unfolding truncate truncate_in
 truncate_changed w i bytes =
     changed_checks w i (seen w i) _
-    (changed_cond w i (eqb bytes 0) _ _ (nothing Fine)
+    (changed_cond w i (eqb bytes 0) _ _ (nothing fine)
     (changed_cond w i (is_empty f) _ _ (one w.map emptied)
     (changed_cond w i (in_shape w.state.page_count f) _ _ (by (walk w.state.page_count (read_at w.image) f.first_seq (last_of f)).ends)
-    (nothing (Refused Damaged)))))
+    (nothing (Err Damaged)))))
   where
     f : FileRecord
     f = file_at w.table i
 
     by : (e : Sought) → Changed w i (truncated_by w i (file_at w.table i) (new_first (file_at w.table i) bytes) e)
-    by damaged = nothing (Refused Damaged)
+    by damaged = nothing (Err Damaged)
     by (at q) = one _ _
 
 -- it makes no store
@@ -104,8 +103,8 @@ pub record Quiet (w : World) (o : Outcome Done) : Type 0 where
   pub map : o.map ≡ w.map
 
 quiet_checks : (w : World) (d : Done) (o : Outcome Done) → Quiet w o → Quiet w (on_done d (refuse w) o)
-quiet_checks w (Refused why) o q = record { stores = refl; map = refl }
-quiet_checks w Fine o q = q
+quiet_checks w (Err why) o q = record { stores = refl; map = refl }
+quiet_checks w (Ok u) o q = q
 
 pub rename_quiet : (w : World) (i j : ℕ) → Quiet w (rename w i j)
 unfolding rename

@@ -1,5 +1,7 @@
 -- What a commit that is done leaves: the log of its metadata page replays to the table, held pages are free, and the rest stays.
 -- Assumes nothing.
+use Rattle.std.specs.Prelude.{Option, Some, None, Ok, Err}
+use Rattle.state.specs.Refusals.{Done, fine}
 use mathlib.Core.Path.{◌≡◌, refl, sym, ◌∙◌, ap, subst}
 use mathlib.Core.Bool.{Bool, true, false, cond, ◌&&◌, not}
 use mathlib.Core.List.{List, [], ◌∷◌, map}
@@ -13,15 +15,11 @@ use lib.Seq.{set_out, get_or-set_same, get_or-set_other}
 use Rattle.seq.specs.Ids.{none}
 use Rattle.page.specs.Page.{Bytes}
 use Rattle.page.specs.Store.{ran}
-use Rattle.map.specs.declared.Alloc.{Alloc}
-use Rattle.map.specs.declared.Alloc.TheVariants.{Page, Full}
 use Rattle.map.specs.Map.{alloc_of, released, unheld, free, held, used}
 use Rattle.map.proofs.Laws.{split, alloc_found, released_at}
 use Rattle.metalog.specs.declared.Entry.{Entry}
 use Rattle.metalog.specs.declared.Files.{Files}
 use Rattle.metalog.specs.declared.Replay.{Replay}
-use Rattle.metalog.specs.declared.LogEnd.{LogEnd}
-use Rattle.metalog.specs.declared.LogEnd.TheVariants.{At, Damaged as NoLog}
 use Rattle.metalog.specs.Log.{log_end, rest_erased, fits, sound, adds, fresh, replay_of}
 use Rattle.metalog.specs.Batch.{entry_for, batch_stores}
 use Rattle.metalog.proofs.Runs.{chosen_few}
@@ -29,8 +27,6 @@ use Rattle.metalog.proofs.Table.{Typed, Agree, typed_none, replay_typed, adds_go
 use Rattle.state.specs.declared.types.FileRecord.{FileRecord}
 use Rattle.state.specs.declared.types.Refusal.{Refusal}
 use Rattle.state.specs.declared.types.Refusal.TheVariants.{Damaged, NoRoom, SeqEnd}
-use Rattle.state.specs.declared.types.Done.{Done}
-use Rattle.state.specs.declared.types.Done.TheVariants.{Done as Fine, Refused}
 use Rattle.state.specs.Values.{absent, is_empty, closed, with_meta, with_cursor}
 use Rattle.state.specs.Checks.{checks}
 use Rattle.state.specs.World.{World, Outcome, refuse}
@@ -43,44 +39,44 @@ use Rattle.transact.proofs.Exits.{Checked, batch_of, commit_refused, commit_none
 
 pub data Way (w : World) : Outcome Done → Type 0 where
   nothing : length (dirty_files w.table) ≡ 0 → Way w (committed w [])
-  appended : (e : ℕ) → log_end w.image w.state.meta_page ≡ At e → fits e (length (dirty_files w.table)) ≡ true
+  appended : (e : ℕ) → log_end w.image w.state.meta_page ≡ Some e → fits e (length (dirty_files w.table)) ≡ true
       → rest_erased w.image w.state.meta_page e ≡ true → Way w (committed w (batch_stores w.state.meta_page e (dirty_files w.table)))
-  renewed : (p : ℕ) → alloc_of w.map w.state.page_count w.state.cursor ≡ Page p → Way w (moved_to w (Page p))
+  renewed : (p : ℕ) → alloc_of w.map w.state.page_count w.state.cursor ≡ Some p → Way w (moved_to w (Some p))
 
-module _ (w : World) (done : (commit w).answer ≡ Fine) where
+module _ (w : World) (done : (commit w).answer ≡ fine) where
   not_refused : {X : Type 0} (why : Refusal) → commit w ≡ refuse w why → X
   not_refused why e =
-      let f : Refused why ≡ Fine = sym (ap (λ (o : Outcome Done). o.answer) e) ∙ done in
+      let f : Err why ≡ fine = sym (ap (λ (o : Outcome Done). o.answer) e) ∙ done in
       let z : ◌≡◌ {A = ℕ} 0 1 = cc in absurd (omega arith)
 
   -- checks 1 to 4 passed
-  pub commit_checked : Checked w 0 Fine
+  pub commit_checked : Checked w 0 fine
   commit_checked = by (checks (length w.image) (length w.map) w.state w.state.writer.active 0) refl
     where
-      by : (d : Done) → Checked w 0 d → Checked w 0 Fine
-      by Fine e = e
-      by (Refused why) e = not_refused why (commit_refused w why e)
+      by : (d : Done) → Checked w 0 d → Checked w 0 fine
+      by (Ok u) e = e
+      by (Err why) e = not_refused why (commit_refused w why e)
 
   pub commit_passed : Passed (length w.image) (length w.map) w.state w.state.writer.active 0
   commit_passed = checks_pass _ _ _ _ _ commit_checked
 
-  way_alloc : commit w ≡ moved w → (w.state.meta_seq ≡ 4294967295 → ⊥) → (a : Alloc) → alloc_of w.map w.state.page_count w.state.cursor ≡ a
+  way_alloc : commit w ≡ moved w → (w.state.meta_seq ≡ 4294967295 → ⊥) → (a : Option ℕ) → alloc_of w.map w.state.page_count w.state.cursor ≡ a
       → Way w (commit w)
-  way_alloc s n Full e = not_refused NoRoom (s ∙ moved_full w n e)
-  way_alloc s n (Page p) e = subst (Way w) (sym (s ∙ moved_page w p n e)) (renewed p e)
+  way_alloc s n None e = not_refused NoRoom (s ∙ moved_full w n e)
+  way_alloc s n (Some p) e = subst (Way w) (sym (s ∙ moved_page w p n e)) (renewed p e)
 
   way_moved : commit w ≡ moved w → (b : Bool) → eqb w.state.meta_seq 4294967295 ≡ b → Way w (commit w)
   way_moved s true t = not_refused SeqEnd (s ∙ moved_end w (eqb-true _ _ t))
   way_moved s false t = way_alloc s (eqb-false _ _ t) _ refl
 
-  way_tested : commit w ≡ batch_of w → (e : ℕ) → log_end w.image w.state.meta_page ≡ At e → (b : Bool)
+  way_tested : commit w ≡ batch_of w → (e : ℕ) → log_end w.image w.state.meta_page ≡ Some e → (b : Bool)
       → (fits e (length (dirty_files w.table)) && rest_erased w.image w.state.meta_page e) ≡ b → Way w (commit w)
   way_tested s e h true t = let x = both _ _ t in subst (Way w) (sym (s ∙ batch_fits w e h t)) (appended e h x.0 x.1)
   way_tested s e h false t = way_moved (s ∙ batch_moved w e h t) _ refl
 
-  way_log : commit w ≡ batch_of w → (l : LogEnd) → log_end w.image w.state.meta_page ≡ l → Way w (commit w)
-  way_log s NoLog h = not_refused Damaged (s ∙ batch_damaged w h)
-  way_log s (At e) h = way_tested s e h _ refl
+  way_log : commit w ≡ batch_of w → (l : Option ℕ) → log_end w.image w.state.meta_page ≡ l → Way w (commit w)
+  way_log s None h = not_refused Damaged (s ∙ batch_damaged w h)
+  way_log s (Some e) h = way_tested s e h _ refl
 
   way_some : (b : Bool) → eqb (length (dirty_files w.table)) 0 ≡ b → Way w (commit w)
   way_some true t = let n = eqb-true _ _ t in subst (Way w) (sym (commit_none w commit_checked n)) (nothing n)
@@ -173,7 +169,7 @@ module _ (w : World) (ready : Ready w) (passed : Passed (length w.image) (length
       ∙ after_new
 
 -- after a commit that is done the log of the metadata page replays to the table, dirty marks aside
-pub commit_replays : (w : World) → Ready w → (commit w).answer ≡ Fine → Replays w (commit w)
+pub commit_replays : (w : World) → Ready w → (commit w).answer ≡ fine → Replays w (commit w)
 commit_replays w ready done = way_replays w ready (commit_passed w done) (commit w) (commit_way w done)
 
 -- ---- the map
@@ -193,7 +189,7 @@ set_either l i j v = by (eqb j i) refl
         split (length l) i (λ h. inr (rw (set_out l i v h))) (λ h. inl (rw z (get_or-set_same l i v 0 h)))
 
 -- a held page is never allocated
-pub held_kept : (m : List ℕ) (count cursor p : ℕ) → cursor ≤ count → alloc_of m count cursor ≡ Page p → get_or m p 0 ≡ held → ⊥
+pub held_kept : (m : List ℕ) (count cursor p : ℕ) → cursor ≤ count → alloc_of m count cursor ≡ Some p → get_or m p 0 ≡ held → ⊥
 held_kept m count cursor p h e k =
     let f = alloc_found m count cursor h p e in
     omega (arith, f.free, get_d_any m p 0 1 f.within)
@@ -242,7 +238,7 @@ module _ (w : World) where
   way_table _ (appended e a b c) = refl
   way_table _ (renewed p e) = refl
 
-  module _ (done : (commit w).answer ≡ Fine) where
+  module _ (done : (commit w).answer ≡ fine) where
     -- no page is held once a commit is done
     pub commit_unheld : (j : ℕ) → get_or (commit w).map j 0 ≡ held → ⊥
     commit_unheld = way_unheld (commit w) (commit_way w done)

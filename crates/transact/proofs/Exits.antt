@@ -1,4 +1,5 @@
 -- One law for each exit of a call's definition, and what the code hands back there. Assumes nothing.
+use Rattle.std.specs.Prelude.{Some, None, Ok, Err}
 use mathlib.Core.Path.{◌≡◌, refl, sym, ◌∙◌, ap}
 use mathlib.Core.Bool.{Bool, true, false, cond, ◌&&◌}
 use mathlib.Core.List.{List, []}
@@ -8,9 +9,7 @@ use borrow.Author.Tests.{lt-ltb, le-ltb, eq-eqb, ne_eqb}
 use lib.ListN.{length, set}
 use Rattle.seq.specs.Ids.{none}
 use Rattle.page.specs.Store.{Store, ran}
-use Rattle.map.specs.declared.Alloc.TheVariants.{Page, Full}
 use Rattle.map.specs.Map.{alloc_of, released, used, free, beyond}
-use Rattle.metalog.specs.declared.LogEnd.TheVariants.{At, Damaged as NoLog}
 use Rattle.metalog.specs.Log.{log_end, rest_erased, fits}
 use Rattle.metalog.specs.Batch.{batch_stores, new_meta_stores}
 use Rattle.chain.specs.Files.{last_of}
@@ -21,11 +20,9 @@ use Rattle.state.specs.declared.types.Table.{Table}
 use Rattle.state.specs.declared.types.State.{State}
 use Rattle.state.specs.declared.types.Refusal.{Refusal}
 use Rattle.state.specs.declared.types.Refusal.TheVariants.{BadFile, Damaged, NoRoom, SeqEnd}
-use Rattle.state.specs.declared.types.Done.{Done}
-use Rattle.state.specs.declared.types.Done.TheVariants.{Done as Fine, Refused}
 use Rattle.state.specs.declared.types.Out.{Out}
 use Rattle.state.specs.Values.{file_at, with_flags, in_shape, opened, closed, with_meta, with_cursor}
-use Rattle.state.specs.Refusals.{numbers, on_done}
+use Rattle.state.specs.Refusals.{numbers, on_done, Done, fine}
 use Rattle.state.specs.Checks.{checks}
 use Rattle.state.specs.World.{World, Outcome, ended, after_call, kept, refuse, after, promised}
 use Rattle.state.proofs.Numbers.{numbers_same, outcome_same}
@@ -60,16 +57,16 @@ Checked w i d = checks (length w.image) (length w.map) w.state w.state.writer.ac
 -- ---- rename
 
 module _ (w : World) (i j : ℕ) where
-  pub rename_refused : (why : Refusal) → Checked w i (Refused why) → rename w i j ≡ refuse w why
+  pub rename_refused : (why : Refusal) → Checked w i (Err why) → rename w i j ≡ refuse w why
   unfolding rename
   rename_refused why e = rw e
 
-  pub rename_bad : Checked w i Fine → 7 < j → rename w i j ≡ refuse w BadFile
+  pub rename_bad : Checked w i fine → 7 < j → rename w i j ≡ refuse w BadFile
   unfolding rename
   rename_bad e h = rw (e, lt-ltb 7 j h)
 
-  pub rename_done : (t : Table) (s : State) → Checked w i Fine → j ≤ 7 → t ≡ swapped w.table i j → s ≡ opened w.state
-      → after (record { answer = Fine; table = t; state = s }) w.image w.map ≡ after_call (λ w. rename w i j) w
+  pub rename_done : (t : Table) (s : State) → Checked w i fine → j ≤ 7 → t ≡ swapped w.table i j → s ≡ opened w.state
+      → after (record { answer = fine; table = t; state = s }) w.image w.map ≡ after_call (λ w. rename w i j) w
   unfolding rename
   rename_done t s e h g k = rw (e, le-ltb 7 j h, g, k)
 
@@ -79,15 +76,15 @@ module _ (w : World) (i bytes : ℕ) where
   abbrev file : FileRecord
   file = file_at w.table i
 
-  pub truncate_refused : (why : Refusal) → Checked w i (Refused why) → truncate w i bytes ≡ refuse w why
+  pub truncate_refused : (why : Refusal) → Checked w i (Err why) → truncate w i bytes ≡ refuse w why
   unfolding truncate
   truncate_refused why e = rw e
 
-  pub truncate_none : Checked w i Fine → bytes ≡ 0 → truncate w i bytes ≡ kept w Fine
+  pub truncate_none : Checked w i fine → bytes ≡ 0 → truncate w i bytes ≡ kept w fine
   unfolding truncate
   truncate_none e h = rw (e, eq-eqb bytes 0 h)
 
-  pub truncate_empty : Checked w i Fine → (bytes ≡ 0 → ⊥) → file.last_page ≡ none → truncate w i bytes ≡ changed_file w i w.map emptied
+  pub truncate_empty : Checked w i fine → (bytes ≡ 0 → ⊥) → file.last_page ≡ none → truncate w i bytes ≡ changed_file w i w.map emptied
   unfolding truncate truncate_in
   truncate_empty e h k = rw (e, ne_eqb bytes 0 h, eq-eqb file.last_page none k)
 
@@ -97,12 +94,12 @@ module _ (w : World) (i bytes : ℕ) where
   abbrev by_tests : Bool → Sought → Outcome Done
   by_tests s e = cond s (truncated_by w i file (new_first file bytes) e) (refuse w Damaged)
 
-  truncate_file : Checked w i Fine → (bytes ≡ 0 → ⊥) → (file.last_page ≡ none → ⊥)
+  truncate_file : Checked w i fine → (bytes ≡ 0 → ⊥) → (file.last_page ≡ none → ⊥)
       → truncate w i bytes ≡ by_tests (in_shape w.state.page_count file) ends
   unfolding truncate truncate_in
   truncate_file e h k = rw (e, ne_eqb bytes 0 h, ne_eqb file.last_page none k)
 
-  pub truncate_damaged : Checked w i Fine → (bytes ≡ 0 → ⊥) → (file.last_page ≡ none → ⊥) → follows w.image w.state.page_count file ≡ false
+  pub truncate_damaged : Checked w i fine → (bytes ≡ 0 → ⊥) → (file.last_page ≡ none → ⊥) → follows w.image w.state.page_count file ≡ false
       → truncate w i bytes ≡ refuse w Damaged
   unfolding follows
   truncate_damaged e h k f = truncate_file e h k ∙ by (in_shape w.state.page_count file) ends f
@@ -113,7 +110,7 @@ module _ (w : World) (i bytes : ℕ) where
       by true damaged f = refl
       by true (at q) f = let z : ◌≡◌ {A = ℕ} 0 1 = cc in absurd (omega arith)
 
-  pub truncate_held : Checked w i Fine → (bytes ≡ 0 → ⊥) → (file.last_page ≡ none → ⊥) → follows w.image w.state.page_count file ≡ true
+  pub truncate_held : Checked w i fine → (bytes ≡ 0 → ⊥) → (file.last_page ≡ none → ⊥) → follows w.image w.state.page_count file ≡ true
       → truncate w i bytes
       ≡ changed_file w i (held_all w.map (unreached w.image w.state.page_count file (new_first file bytes))) (cut file (new_first file bytes))
   unfolding follows
@@ -132,19 +129,19 @@ abbrev pub batch_of : World → Outcome Done
 batch_of w = appended_at w (dirty_files w.table) (log_end w.image w.state.meta_page)
 
 module _ (w : World) where
-  pub commit_refused : (why : Refusal) → Checked w 0 (Refused why) → commit w ≡ refuse w why
+  pub commit_refused : (why : Refusal) → Checked w 0 (Err why) → commit w ≡ refuse w why
   unfolding commit
   commit_refused why e = rw e
 
-  pub commit_none : Checked w 0 Fine → length (dirty_files w.table) ≡ 0 → commit w ≡ committed w []
+  pub commit_none : Checked w 0 fine → length (dirty_files w.table) ≡ 0 → commit w ≡ committed w []
   unfolding commit commit_batch
   commit_none e h = rw (e, eq-eqb (length (dirty_files w.table)) 0 h)
 
-  pub commit_some : Checked w 0 Fine → (length (dirty_files w.table) ≡ 0 → ⊥) → commit w ≡ batch_of w
+  pub commit_some : Checked w 0 fine → (length (dirty_files w.table) ≡ 0 → ⊥) → commit w ≡ batch_of w
   unfolding commit commit_batch
   commit_some e h = rw (e, ne_eqb (length (dirty_files w.table)) 0 h)
 
-  pub batch_damaged : log_end w.image w.state.meta_page ≡ NoLog → batch_of w ≡ refuse w Damaged
+  pub batch_damaged : log_end w.image w.state.meta_page ≡ None → batch_of w ≡ refuse w Damaged
   batch_damaged e = ap (appended_at w (dirty_files w.table)) e
 
   abbrev tested : ℕ → Bool
@@ -155,39 +152,39 @@ module _ (w : World) where
       → (a && b) ≡ x → tested e ≡ x
   tested_is e n a b x h f g t = rw (← h, ← f, ← g) t
 
-  pub batch_fits : (e : ℕ) → log_end w.image w.state.meta_page ≡ At e → tested e ≡ true
+  pub batch_fits : (e : ℕ) → log_end w.image w.state.meta_page ≡ Some e → tested e ≡ true
       → batch_of w ≡ committed w (batch_stores w.state.meta_page e (dirty_files w.table))
   batch_fits e h t = ap (appended_at w (dirty_files w.table)) h ∙ rw t
 
-  pub batch_moved : (e : ℕ) → log_end w.image w.state.meta_page ≡ At e → tested e ≡ false → batch_of w ≡ moved w
+  pub batch_moved : (e : ℕ) → log_end w.image w.state.meta_page ≡ Some e → tested e ≡ false → batch_of w ≡ moved w
   batch_moved e h t = ap (appended_at w (dirty_files w.table)) h ∙ rw t
 
   pub moved_end : w.state.meta_seq ≡ 4294967295 → moved w ≡ refuse w SeqEnd
   unfolding moved
   moved_end h = rw (eq-eqb w.state.meta_seq 4294967295 h)
 
-  pub moved_full : (w.state.meta_seq ≡ 4294967295 → ⊥) → alloc_of w.map w.state.page_count w.state.cursor ≡ Full → moved w ≡ refuse w NoRoom
+  pub moved_full : (w.state.meta_seq ≡ 4294967295 → ⊥) → alloc_of w.map w.state.page_count w.state.cursor ≡ None → moved w ≡ refuse w NoRoom
   unfolding moved
   moved_full h e = rw (ne_eqb w.state.meta_seq 4294967295 h, e)
 
-  pub moved_page : (p : ℕ) → (w.state.meta_seq ≡ 4294967295 → ⊥) → alloc_of w.map w.state.page_count w.state.cursor ≡ Page p
-      → moved w ≡ moved_to w (Page p)
+  pub moved_page : (p : ℕ) → (w.state.meta_seq ≡ 4294967295 → ⊥) → alloc_of w.map w.state.page_count w.state.cursor ≡ Some p
+      → moved w ≡ moved_to w (Some p)
   unfolding moved
   moved_page p h e = rw (ne_eqb w.state.meta_seq 4294967295 h, e)
 
   -- what is there after a move, and after any other commit
   pub moved_done : (p : ℕ) (img m : List ℕ) (s : State) → (w.state.meta_seq ≡ 4294967295 → ⊥)
-      → alloc_of w.map w.state.page_count w.state.cursor ≡ Page p
+      → alloc_of w.map w.state.page_count w.state.cursor ≡ Some p
       → img ≡ ran w.image (new_meta_stores p (record { page_count = w.state.page_count; seq = w.state.meta_seq + 1 }) (live_files w.table))
       → m ≡ set (released (set w.map p used)) w.state.meta_page free
       → s ≡ closed (with_cursor (with_meta w.state p (w.state.meta_seq + 1)) (beyond w.state.page_count p))
-      → after (record { answer = Fine; table = w.table; state = s }) img m ≡ after_call moved w
+      → after (record { answer = fine; table = w.table; state = s }) img m ≡ after_call moved w
   unfolding moved
   moved_done p img m s h e a b c = rw (ne_eqb w.state.meta_seq 4294967295 h, e, a, b, c)
 
   pub committed_is : (call : World → Outcome Done) (l : List Store) (img m : List ℕ) (s : State) → call w ≡ committed w l
       → img ≡ ran w.image l → m ≡ released w.map → s ≡ closed w.state
-      → after (record { answer = Fine; table = w.table; state = s }) img m ≡ after_call call w
+      → after (record { answer = fine; table = w.table; state = s }) img m ≡ after_call call w
   committed_is call l img m s e a b c = rw (a, b, c) (sym (ap (ended w) e))
 
 -- ---- flags
@@ -199,11 +196,11 @@ unfolding flags flags_answer flags_table
 flags_is w i n a t e h = rw (e, h) (by (checks (length w.image) (length w.map) w.state w.state.writer.active i))
   where
     by : (d : Done)
-        → after_flags (on_done d (λ why. record { answer = Refused why; state = w.state }) (record { answer = Fine; state = opened w.state }))
+        → after_flags (on_done d (λ why. record { answer = Err why; state = w.state }) (record { answer = fine; state = opened w.state }))
         (on_done d (λ why. w.table) (with_flags w.table i n)) w.image w.map
         ≡ ended w (on_done d (refuse w) (changed_table w (with_flags w.table i n)))
-    by (Refused why) = refl
-    by Fine = refl
+    by (Err why) = refl
+    by (Ok u) = refl
 
 -- a promise of it that is kept in numbers is kept
 pub flags_same : (call : World → Outcome Done) (w : World) (r : Flagged) (t : Table) (i m : List ℕ) → flags_yield r t i m ≡ promised call w → after_flags r t i m ≡ after_call call w

@@ -1,19 +1,14 @@
 -- Commit, by document 01, "Files and transactions"; DECISIONS 8, 13 and 14. Assumes nothing: these are definitions.
-use Rattle.std.specs.Prelude.{◌+◌, cond, not, ◌&&◌, List, [], map, eqb, length, set}
+use Rattle.state.specs.Refusals.{Done, fine}
+use Rattle.std.specs.Prelude.{◌+◌, cond, not, ◌&&◌, List, [], map, eqb, length, set, Option, Some, None}
 use Rattle.page.specs.Store.{Store}
 use Rattle.metalog.specs.declared.Entry.{Entry}
 use Rattle.metalog.specs.declared.Files.{Files}
-use Rattle.metalog.specs.declared.LogEnd.{LogEnd}
-use Rattle.metalog.specs.declared.LogEnd.TheVariants.{At, Damaged as NoLog}
 use Rattle.metalog.specs.Log.{log_end, rest_erased, fits}
 use Rattle.metalog.specs.Batch.{chosen, batch_stores, new_meta_stores}
-use Rattle.map.specs.declared.Alloc.{Alloc}
-use Rattle.map.specs.declared.Alloc.TheVariants.{Page, Full}
 use Rattle.map.specs.Map.{alloc_of, released, used, free, beyond}
 use Rattle.state.specs.declared.types.FileRecord.{FileRecord}
 use Rattle.state.specs.declared.types.Table.{Table}
-use Rattle.state.specs.declared.types.Done.{Done}
-use Rattle.state.specs.declared.types.Done.TheVariants.{Done as Fine}
 use Rattle.state.specs.declared.types.Refusal.TheVariants.{Damaged, NoRoom, SeqEnd}
 use Rattle.state.specs.Values.{is_empty, closed, with_meta, with_cursor}
 use Rattle.state.specs.World.{World, Outcome, refuse, checked}
@@ -39,14 +34,14 @@ live_files t = chosen (files_of t) (map (λ (f : FileRecord). not (is_empty f)) 
 -- ---- what a commit leaves: held pages are free, the transaction ends; dirty marks stay
 
 abbrev pub committed : World → List Store → Outcome Done
-committed w l = record { answer = Fine; stores = l; map = released w.map; table = w.table; state = closed w.state }
+committed w l = record { answer = fine; stores = l; map = released w.map; table = w.table; state = closed w.state }
 
 -- a new metadata page with seq one higher takes all non-empty files, and the old one is then free
-abbrev pub moved_to : World → Alloc → Outcome Done
-moved_to w Full = refuse w NoRoom
-moved_to w (Page p) =
+abbrev pub moved_to : World → Option ℕ → Outcome Done
+moved_to w None = refuse w NoRoom
+moved_to w (Some p) =
     record {
-      answer = Fine;
+      answer = fine;
       stores = new_meta_stores p (record { page_count = w.state.page_count; seq = w.state.meta_seq + 1 }) (live_files w.table);
       map = set (released (set w.map p used)) w.state.meta_page free;
       table = w.table;
@@ -62,9 +57,9 @@ moved w =
 -- ---- the call
 
 -- a batch is appended where it fits and the rest of the page is all 0xFF
-abbrev pub appended_at : World → List Entry → LogEnd → Outcome Done
-appended_at w b NoLog = refuse w Damaged
-appended_at w b (At e) =
+abbrev pub appended_at : World → List Entry → Option ℕ → Outcome Done
+appended_at w b None = refuse w Damaged
+appended_at w b (Some e) =
     cond (fits e (length b) && rest_erased w.image w.state.meta_page e)
     (committed w (batch_stores w.state.meta_page e b))
     (moved w)

@@ -1,8 +1,7 @@
 -- Rename and flags, by document 01, "Files and transactions"; DECISIONS 12. Assumes nothing: these are definitions.
+use Rattle.state.specs.Refusals.{Done, fine}
 use Rattle.std.specs.Prelude.{ℕ, cond, [], ltb}
 use Rattle.state.specs.declared.types.Table.{Table}
-use Rattle.state.specs.declared.types.Done.{Done}
-use Rattle.state.specs.declared.types.Done.TheVariants.{Done as Fine}
 use Rattle.state.specs.declared.types.Refusal.TheVariants.{BadFile}
 use Rattle.state.specs.Values.{file_at, with_file, with_flags, opened}
 use Rattle.state.specs.World.{World, Outcome, refuse, checked}
@@ -13,7 +12,7 @@ unfoldable pub swapped : Table → ℕ → ℕ → Table
 swapped t i j = with_file (with_file t i (dirtied (file_at t j))) j (dirtied (file_at t i))
 
 abbrev pub changed_table : World → Table → Outcome Done
-changed_table w t = record { answer = Fine; stores = []; map = w.map; table = t; state = opened w.state }
+changed_table w t = record { answer = fine; stores = []; map = w.map; table = t; state = opened w.state }
 
 unfoldable pub rename : World → ℕ → ℕ → Outcome Done
 rename w i j =

@@ -1,4 +1,5 @@
 -- Truncate, by document 01, "Files and transactions"; DECISIONS 12 and 15. Assumes nothing: these are definitions.
+use Rattle.state.specs.Refusals.{Done, fine}
 use Rattle.std.specs.Prelude.{ℕ, ◌+◌, ◌-◌, min, true, cond, List, [], ◌∷◌, eqb, length, drop, set}
 use Rattle.seq.specs.Ids.{none}
 use Rattle.page.specs.Page.{no_header}
@@ -6,8 +7,6 @@ use Rattle.map.specs.Map.{held}
 use Rattle.chain.specs.Files.{last_of}
 use Rattle.chain.specs.Steps.{read_at, Sought, damaged, at, walk, visited}
 use Rattle.state.specs.declared.types.FileRecord.{FileRecord}
-use Rattle.state.specs.declared.types.Done.{Done}
-use Rattle.state.specs.declared.types.Done.TheVariants.{Done as Fine}
 use Rattle.state.specs.declared.types.Refusal.TheVariants.{Damaged}
 use Rattle.state.specs.Values.{file_at, with_file, is_empty, in_shape, opened}
 use Rattle.state.specs.World.{World, Outcome, kept, refuse, checked}
@@ -55,7 +54,7 @@ held_all m (p ∷ l) = held_all (set m p held) l
 -- ---- the call
 
 abbrev pub changed_file : World → ℕ → List ℕ → FileRecord → Outcome Done
-changed_file w i m f = record { answer = Fine; stores = []; map = m; table = with_file w.table i f; state = opened w.state }
+changed_file w i m f = record { answer = fine; stores = []; map = m; table = with_file w.table i f; state = opened w.state }
 
 abbrev pub truncated_by : World → ℕ → FileRecord → ℕ → Sought → Outcome Done
 truncated_by w i f first damaged = refuse w Damaged
@@ -74,4 +73,4 @@ truncate_in w i f bytes =
 unfoldable pub truncate : World → ℕ → ℕ → Outcome Done
 truncate w i bytes =
     checked w w.state.writer.active i (refuse w)
-    (cond (eqb bytes 0) (kept w Fine) (truncate_in w i (file_at w.table i) bytes))
+    (cond (eqb bytes 0) (kept w fine) (truncate_in w i (file_at w.table i) bytes))

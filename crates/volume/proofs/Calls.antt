@@ -1,4 +1,6 @@
 -- What the exits of format and mount come to. Assumes nothing.
+use Rattle.std.specs.Prelude.{Err}
+use Rattle.state.specs.Refusals.{fine}
 use mathlib.Core.Path.{◌≡◌}
 use mathlib.Core.Bool.{true, false}
 use mathlib.Core.List.{List}
@@ -9,7 +11,6 @@ use Rattle.page.specs.Store.{ran}
 use Rattle.map.specs.Map.{cleared, used, beyond}
 use Rattle.state.specs.declared.types.Table.{Table}
 use Rattle.state.specs.declared.types.State.{State}
-use Rattle.state.specs.declared.types.Done.TheVariants.{Done as Fine, Refused}
 use Rattle.state.specs.declared.types.Refusal.TheVariants.{BadSize, Damaged}
 use Rattle.state.specs.Values.{empty_table, settled, unmounted}
 use Rattle.state.specs.Checks.{sizes}
@@ -26,7 +27,7 @@ module _ (img map : List ℕ) (t : Table) (s : State) where
   -- ---- format
 
   pub format_refused : sizes (length img) (length map) ≡ false
-      → after (record { answer = Refused BadSize; table = t; state = s }) img map ≡ after_call format (before img map t s)
+      → after (record { answer = Err BadSize; table = t; state = s }) img map ≡ after_call format (before img map t s)
   unfolding format
   format_refused e = rw e
 
@@ -34,7 +35,7 @@ module _ (img map : List ℕ) (t : Table) (s : State) where
       → (img' map' : List ℕ) (t' : Table) (s' : State) (cursor : ℕ)
       → img' ≡ ran img (format_stores img (seed % length map) (length map)) → map' ≡ set (cleared (length map) (length map)) (seed % length map) used
       → t' ≡ empty_table → cursor ≡ beyond (length map) (seed % length map) → s' ≡ settled (length map) (length map) (seed % length map) 1 cursor seed
-      → after (record { answer = Fine; table = t'; state = s' }) img' map' ≡ after_call format (before img map t s)
+      → after (record { answer = fine; table = t'; state = s' }) img' map' ≡ after_call format (before img map t s)
   unfolding format formatted
   format_done e seed es img' map' t' s' cursor a b c d f = rw (a, b, c, f, d, es, e)
 
@@ -43,19 +44,19 @@ module _ (img map : List ℕ) (t : Table) (s : State) where
   module _ (b : Best) (r : TableLoad) (map' : List ℕ) (e : all_as r map' ≡ mount_from img (length map) b) (same : length map' ≡ length map) where
     pub mount_done : r.ok ≡ true → (seed : ℕ) → seed ≡ seed_after s.seed → (s' : State)
         → s' ≡ settled (length map') b.page_count b.page b.seq (seed % b.page_count) seed
-        → after (record { answer = Fine; table = r.table; state = s' }) img map' ≡ after_call (λ w. mount_best w b) (before img map t s)
+        → after (record { answer = fine; table = r.table; state = s' }) img map' ≡ after_call (λ w. mount_best w b) (before img map t s)
     unfolding mount_best
     mount_done h seed es s' f = rw (all_good img (length map) b r map' e h, f, same, es)
 
     pub mount_damaged : r.ok ≡ false → (map'' : List ℕ) → map'' ≡ replicate (length map') 0 → (s' : State) → s' ≡ unmounted s.seed
-        → after (record { answer = Refused Damaged; table = t; state = s' }) img map'' ≡ after_call (λ w. mount_best w b) (before img map t s)
+        → after (record { answer = Err Damaged; table = t; state = s' }) img map'' ≡ after_call (λ w. mount_best w b) (before img map t s)
     unfolding mount_best
     mount_damaged h map'' z s' f = rw (all_bad img (length map) b r map' e h, f, z, same)
 
   -- ---- the calls
 
   pub with_refused : (b : Best) → sizes (length img) (length map) ≡ false
-      → after (record { answer = Refused BadSize; table = t; state = s }) img map ≡ after_call (λ w. mount_with w b) (before img map t s)
+      → after (record { answer = Err BadSize; table = t; state = s }) img map ≡ after_call (λ w. mount_with w b) (before img map t s)
   unfolding mount_with
   with_refused b e = rw e
 

@@ -1,5 +1,6 @@
 -- What format erases: each page once, in ascending order, so that what stands on a page is still there when its turn comes.
 -- Assumes nothing.
+use Rattle.std.specs.Prelude.{Option, Some, None}
 use mathlib.Core.Path.{◌≡◌, refl, sym, ap}
 use mathlib.Core.Bool.{Bool, true, false, cond}
 use mathlib.Core.List.{List, [], ◌∷◌}
@@ -9,8 +10,6 @@ use native.Mathlib.Omega.{arith}
 use borrow.Author.Tests.{eq-eqb, ne_eqb}
 use lib.Dec.{eqb}
 use Rattle.page.specs.declared.MetaHeader.{MetaHeader}
-use Rattle.page.specs.declared.MetaRead.{MetaRead}
-use Rattle.page.specs.declared.MetaRead.TheVariants.{Found, Missing}
 use Rattle.page.specs.Page.{page_of, meta_of}
 use Rattle.page.specs.Store.{erase, page_at, stored, ran, meta_store}
 use Rattle.page.proofs.Laws.{Every, every_map, every_append, Off, untouched, ran_append}
@@ -18,14 +17,14 @@ use Rattle.volume.specs.Format.{erased_if, erasures, first_meta, format_stores}
 
 -- ---- one page
 
-module _ (p n : ℕ) (x : MetaRead) where
-  pub erased_found : (img : List ℕ) (m : MetaHeader) → x ≡ Found m → stored img (erase n) ≡ ran img (erased_if p n x)
+module _ (p n : ℕ) (x : Option MetaHeader) where
+  pub erased_found : (img : List ℕ) (m : MetaHeader) → x ≡ Some m → stored img (erase n) ≡ ran img (erased_if p n x)
   erased_found img m e = rw e
 
-  pub erased_own : (img : List ℕ) → x ≡ Missing → n ≡ p → stored img (erase n) ≡ ran img (erased_if p n x)
+  pub erased_own : (img : List ℕ) → x ≡ None → n ≡ p → stored img (erase n) ≡ ran img (erased_if p n x)
   erased_own img e h = rw (e, eq-eqb n p h)
 
-  pub erased_kept : (img : List ℕ) → x ≡ Missing → (n ≡ p → ⊥) → img ≡ ran img (erased_if p n x)
+  pub erased_kept : (img : List ℕ) → x ≡ None → (n ≡ p → ⊥) → img ≡ ran img (erased_if p n x)
   erased_kept img e h = rw (e, ne_eqb n p h)
 
   -- it is an erase of that page, or nothing
@@ -36,9 +35,9 @@ module _ (p n : ℕ) (x : MetaRead) where
       test true = (refl, tt)
       test false = tt
 
-      by : (x : MetaRead) → Every (λ s. s ≡ erase n) (erased_if p n x)
-      by (Found m) = (refl, tt)
-      by Missing = test (eqb n p)
+      by : (x : Option MetaHeader) → Every (λ s. s ≡ erase n) (erased_if p n x)
+      by (Some m) = (refl, tt)
+      by None = test (eqb n p)
 
 -- ---- the pages below n
 

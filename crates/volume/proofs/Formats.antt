@@ -1,4 +1,5 @@
 -- A freshly formatted image mounts with eight empty files. Assumes nothing.
+use Rattle.std.specs.Prelude.{Option, Some, None}
 use mathlib.Core.Path.{◌≡◌, refl, sym, ap, ◌∙◌}
 use mathlib.Core.Bool.{Bool, true, false, cond}
 use mathlib.Core.Logic.{inl}
@@ -13,8 +14,6 @@ use lib.ListN.{length, set, drop, replicate}
 use Rattle.seq.specs.Ids.{none}
 use Rattle.seq.specs.Seed.{seed_after}
 use Rattle.page.specs.declared.MetaHeader.{MetaHeader}
-use Rattle.page.specs.declared.MetaRead.{MetaRead}
-use Rattle.page.specs.declared.MetaRead.TheVariants.{Found, Missing}
 use Rattle.page.specs.Page.{page_of, meta_of, meta_bytes}
 use Rattle.page.specs.Store.{Store, erase, page_at, stored, ran, meta_store}
 use Rattle.page.proofs.Laws.{stored_length, ran_length, ran_append, other_page, erased_page, every_map, Off, untouched}
@@ -50,34 +49,34 @@ module _ (img : List ℕ) (p : ℕ) where
   left_more n = ran_append img (erasures img p n) (erased_if p n (meta_of (page_of img n)))
 
   -- a page's turn leaves the others
-  turn_other : (n q : ℕ) (x : MetaRead) → (q ≡ n → ⊥) → page_of (ran (left n) (erased_if p n x)) q ≡ page_of (left n) q
+  turn_other : (n q : ℕ) (x : Option MetaHeader) → (q ≡ n → ⊥) → page_of (ran (left n) (erased_if p n x)) q ≡ page_of (left n) q
   turn_other n q x h =
       untouched (left n) q (erased_if p n x) (every_map (λ s. s ≡ erase n) (Off q) (λ s e k. h (k ∙ ap (λ (s : Store). page_at s) e)) (erased_if p n x) (erased_on p n x))
 
   -- no metadata header reads any more
-  turn_meta : (n : ℕ) (x : MetaRead) → meta_of (page_of img n) ≡ x → meta_of (page_of (ran (left n) (erased_if p n x)) n) ≡ Missing
-  turn_meta n (Found m) e = erased_meta (left n) n
-  turn_meta n Missing e = by (eqb n p)
+  turn_meta : (n : ℕ) (x : Option MetaHeader) → meta_of (page_of img n) ≡ x → meta_of (page_of (ran (left n) (erased_if p n x)) n) ≡ None
+  turn_meta n (Some m) e = erased_meta (left n) n
+  turn_meta n None e = by (eqb n p)
     where
-      by : (t : Bool) → meta_of (page_of (ran (left n) (cond t (erase n ∷ []) [])) n) ≡ Missing
+      by : (t : Bool) → meta_of (page_of (ran (left n) (cond t (erase n ∷ []) [])) n) ≡ None
       by true = erased_meta (left n) n
       by false = ap meta_of (erasures_above img p n n (omega arith)) ∙ e
 
-  pub none_left : (n q : ℕ) → q < n → meta_of (page_of (left n) q) ≡ Missing
+  pub none_left : (n q : ℕ) → q < n → meta_of (page_of (left n) q) ≡ None
   none_left zero q h = absurd (omega arith)
   none_left (suc n) q h = rw (left_more n) (by (ℕ_discrete q n) (λ k. none_left n q k))
     where
-      by : Dec (q ≡ n) → (q < n → meta_of (page_of (left n) q) ≡ Missing) → meta_of (page_of (ran (left n) (erased_if p n (meta_of (page_of img n)))) q) ≡ Missing
+      by : Dec (q ≡ n) → (q < n → meta_of (page_of (left n) q) ≡ None) → meta_of (page_of (ran (left n) (erased_if p n (meta_of (page_of img n)))) q) ≡ None
       by (yes e) ih = rw e (turn_meta n (meta_of (page_of img n)) refl)
       by (no d) ih = ap meta_of (turn_other n q (meta_of (page_of img n)) d) ∙ ih (omega arith)
 
   -- the allocated page is erased
-  turn_own : (x : MetaRead) → p < length img / 256 → page_of (ran (left p) (erased_if p p x)) p ≡ replicate 256 255
+  turn_own : (x : Option MetaHeader) → p < length img / 256 → page_of (ran (left p) (erased_if p p x)) p ≡ replicate 256 255
   turn_own x h = by x (erased_page (left p) p (rw (ran_length img (erasures img p p)) h))
     where
-      by : (x : MetaRead) → page_of (stored (left p) (erase p)) p ≡ replicate 256 255 → page_of (ran (left p) (erased_if p p x)) p ≡ replicate 256 255
-      by (Found m) e = e
-      by Missing e = rw (eq-eqb p p refl) e
+      by : (x : Option MetaHeader) → page_of (stored (left p) (erase p)) p ≡ replicate 256 255 → page_of (ran (left p) (erased_if p p x)) p ≡ replicate 256 255
+      by (Some m) e = e
+      by None e = rw (eq-eqb p p refl) e
 
   pub own_left : (n : ℕ) → p < n → p < length img / 256 → page_of (left n) p ≡ replicate 256 255
   own_left zero h i = absurd (omega arith)
@@ -111,23 +110,23 @@ module _ (img : List ℕ) (n p : ℕ) (whole : length img ≡ 256 * n) (inside :
   own_log : log_at made p ≡ ended [] 0
   own_log = log_page (ran img (new_meta_stores p (first_meta n) [])) made p own_page ∙ new_log img p (first_meta n) [] there (omega arith) tt
 
-  own_meta : meta_of (page_of made p) ≡ Found (first_meta n)
+  own_meta : meta_of (page_of made p) ≡ Some (first_meta n)
   own_meta =
       ap (λ (i : List ℕ). meta_of (page_of i p)) (sym (format_stores_lem img p n))
       ∙ meta_stored (ran img (erasures img p n)) p (first_meta n) there_left (record { count = omega arith; seq = omega arith })
 
-  other_meta : (q : ℕ) → q < n → (q ≡ p → ⊥) → meta_of (page_of made q) ≡ Missing
+  other_meta : (q : ℕ) → q < n → (q ≡ p → ⊥) → meta_of (page_of made q) ≡ None
   other_meta q h d =
       ap (λ (i : List ℕ). meta_of (page_of i q)) (sym (format_stores_lem img p n))
       ∙ ap meta_of (other_page (ran img (erasures img p n)) (meta_store p (first_meta n)) q d)
       ∙ none_left img p n q h
 
-  only : (q : ℕ) (m : MetaHeader) → q < n → meta_of (page_of made q) ≡ Found m → (q ≡ p) × (m ≡ first_meta n)
+  only : (q : ℕ) (m : MetaHeader) → q < n → meta_of (page_of made q) ≡ Some m → (q ≡ p) × (m ≡ first_meta n)
   only q m h e = by (ℕ_discrete q p)
     where
       by : Dec (q ≡ p) → (q ≡ p) × (m ≡ first_meta n)
-      by (yes k) = let z : Found m ≡ Found (first_meta n) = sym e ∙ ap (λ (q : ℕ). meta_of (page_of made q)) k ∙ own_meta in (k, found_one m (first_meta n) z)
-      by (no k) = let z : Missing ≡ Found m = sym (other_meta q h k) ∙ e in absurd (let y : ◌≡◌ {A = ℕ} 0 1 = cc in omega arith)
+      by (yes k) = let z : Some m ≡ Some (first_meta n) = sym e ∙ ap (λ (q : ℕ). meta_of (page_of made q)) k ∙ own_meta in (k, found_one m (first_meta n) z)
+      by (no k) = let z : None ≡ Some m = sym (other_meta q h k) ∙ e in absurd (let y : ◌≡◌ {A = ℕ} 0 1 = cc in omega arith)
 
   own_wins : Wins made n (best_of p (first_meta n))
   own_wins =

@@ -1,4 +1,6 @@
 -- Mount in declarative words, both ways, and mounting again. Assumes nothing.
+use Rattle.std.specs.Prelude.{Err}
+use Rattle.state.specs.Refusals.{Done, fine}
 use mathlib.Core.Path.{◌≡◌, refl, sym, ap, ◌∙◌, subst}
 use mathlib.Core.Bool.{Bool, true, false, cond}
 use mathlib.Core.List.{List}
@@ -16,8 +18,6 @@ use Rattle.state.specs.declared.types.State.{State}
 use Rattle.state.specs.declared.types.FileRecord.{FileRecord}
 use Rattle.state.specs.declared.types.Refusal.{Refusal}
 use Rattle.state.specs.declared.types.Refusal.TheVariants.{BadSize}
-use Rattle.state.specs.declared.types.Done.{Done}
-use Rattle.state.specs.declared.types.Done.TheVariants.{Done as Fine, Refused}
 use Rattle.state.specs.Values.{settled}
 use Rattle.state.specs.Checks.{sizes}
 use Rattle.state.specs.World.{World, Outcome, before, after_call, refuse}
@@ -94,7 +94,7 @@ module _ (img : List ℕ) (n : ℕ) (b : Best) where
 
 -- ---- the call
 
-refused_not : {why : Refusal} → Refused why ≡ Fine → ⊥
+refused_not : {why : Refusal} → Err why ≡ fine → ⊥
 refused_not e = let z : ◌≡◌ {A = ℕ} 0 1 = cc in omega arith
 
 module _ (w : World) where
@@ -109,22 +109,22 @@ module _ (w : World) where
   unfolding mount mount_with mount_best
   mount_fits e = rw e
 
-  mount_sizes : (mount w).answer ≡ Fine → sizes (length w.image) pages ≡ true
+  mount_sizes : (mount w).answer ≡ fine → sizes (length w.image) pages ≡ true
   unfolding mount mount_with
   mount_sizes h = by (sizes (length w.image) pages) refl h
     where
-      by : (t : Bool) → sizes (length w.image) pages ≡ t → (cond t (mount_best w found) (refuse w BadSize)).answer ≡ Fine → sizes (length w.image) pages ≡ true
+      by : (t : Bool) → sizes (length w.image) pages ≡ t → (cond t (mount_best w found) (refuse w BadSize)).answer ≡ fine → sizes (length w.image) pages ≡ true
       by true e h = e
       by false e h = absurd (refused_not h)
 
   -- a mount that succeeds
-  pub mount_says : (mount w).answer ≡ Fine → Succeeds w (mount w)
+  pub mount_says : (mount w).answer ≡ fine → Succeeds w (mount w)
   mount_says h =
       let fit = mount_sizes h in
       by fit (mount_from w.image pages found) refl (sym (ap (λ (o : Outcome Done). o.answer) (mount_fits fit)) ∙ h)
     where
       by : sizes (length w.image) pages ≡ true → (r : Maybe LoadedAll) → mount_from w.image pages found ≡ r
-          → (mounted_as w pages (seed_after w.state.seed) found r).answer ≡ Fine → Succeeds w (mount w)
+          → (mounted_as w pages (seed_after w.state.seed) found r).answer ≡ fine → Succeeds w (mount w)
       by fit bad e h = absurd (refused_not h)
       by fit (good x) e h =
           let c = chosen w.image pages found (from_good_best w.image pages found x e) in record {
@@ -162,7 +162,7 @@ unfolding settled
 finds_same w w' b files map = record { answer = refl; stores = refl; map = refl; table = refl; count = refl; page = refl; seq = refl }
 
 -- mount of the same image again, with any map of that length, table and state
-pub mount_again : (w : World) → (mount w).answer ≡ Fine → (map : List ℕ) (t : Table) (s : State) → length map ≡ length w.map
+pub mount_again : (w : World) → (mount w).answer ≡ fine → (map : List ℕ) (t : Table) (s : State) → length map ≡ length w.map
     → SameMount (mount w) (mount (before w.image map t s))
 mount_again w h map t s e =
     let x = mount_says w h in
@@ -171,7 +171,7 @@ mount_again w h map t s e =
     (subst (SameMount (finds w x.best x.files x.map)) (sym again) (finds_same w (before w.image map t s) x.best x.files x.map))
 
 -- so mount twice gives the same files
-pub mount_twice : (w : World) → (mount w).answer ≡ Fine → SameMount (mount w) (mount (after_call mount w).world)
+pub mount_twice : (w : World) → (mount w).answer ≡ fine → SameMount (mount w) (mount (after_call mount w).world)
 mount_twice w h =
     let x = mount_says w h in
     let o = mount w in

@@ -1,4 +1,5 @@
 -- The scan: a page more, and what the best of some pages is. Assumes nothing.
+use Rattle.std.specs.Prelude.{Option, Some, None}
 use mathlib.Core.Path.{◌≡◌, refl, sym, ap, ◌∙◌}
 use mathlib.Core.Bool.{Bool, true, false, cond}
 use mathlib.Core.List.{List}
@@ -8,8 +9,6 @@ use native.Mathlib.Omega.{arith}
 use borrow.Author.Tests.{lt-ltb, le-ltb, ltb-true, ltb-false}
 use lib.Dec.{ltb}
 use Rattle.page.specs.declared.MetaHeader.{MetaHeader}
-use Rattle.page.specs.declared.MetaRead.{MetaRead}
-use Rattle.page.specs.declared.MetaRead.TheVariants.{Found, Missing}
 use Rattle.page.specs.Page.{page_of, meta_of}
 use Rattle.page.proofs.Laws.{split}
 use Rattle.volume.specs.declared.Best.{Best}
@@ -18,16 +17,16 @@ use Rattle.volume.specs.Mounted.{Wins}
 
 -- ---- one page
 
-module _ (b : Best) (p : ℕ) (x : MetaRead) where
-  pub better_none : x ≡ Missing → b ≡ better b p x
+module _ (b : Best) (p : ℕ) (x : Option MetaHeader) where
+  pub better_none : x ≡ None → b ≡ better b p x
   unfolding better
   better_none e = rw e
 
-  pub better_higher : (m : MetaHeader) → x ≡ Found m → b.seq < m.seq → best_of p m ≡ better b p x
+  pub better_higher : (m : MetaHeader) → x ≡ Some m → b.seq < m.seq → best_of p m ≡ better b p x
   unfolding better
   better_higher m e h = rw (e, lt-ltb b.seq m.seq h)
 
-  pub better_lower : (m : MetaHeader) → x ≡ Found m → m.seq ≤ b.seq → b ≡ better b p x
+  pub better_lower : (m : MetaHeader) → x ≡ Some m → m.seq ≤ b.seq → b ≡ better b p x
   unfolding better
   better_lower m e h = rw (e, le-ltb b.seq m.seq h)
 
@@ -41,13 +40,13 @@ scan_more img n b e = rw (add-one n, e)
 
 -- of the first n pages, whether one was found or not
 pub record Scanned (img : List ℕ) (n : ℕ) (b : Best) : Type 0 where
-  pub most : (q : ℕ) (m : MetaHeader) → q < n → meta_of (page_of img q) ≡ Found m → m.seq ≤ b.seq
+  pub most : (q : ℕ) (m : MetaHeader) → q < n → meta_of (page_of img q) ≡ Some m → m.seq ≤ b.seq
   pub wins : 1 ≤ b.seq → Wins img n b
 
-clash : {m : MetaHeader} → Missing ≡ Found m → ⊥
+clash : {m : MetaHeader} → None ≡ Some m → ⊥
 clash e = let z : ◌≡◌ {A = ℕ} 0 1 = cc in omega arith
 
-pub found_one : (m m' : MetaHeader) → Found m ≡ Found m' → m ≡ m'
+pub found_one : (m m' : MetaHeader) → Some m ≡ Some m' → m ≡ m'
 found_one m m' e = cc
 
 module _ (img : List ℕ) where
@@ -55,9 +54,9 @@ module _ (img : List ℕ) where
   below : {R : Type 0} (n q : ℕ) → q < suc n → (q < n → R) → (q ≡ n → R) → R
   below n q h f g = split n q (λ k. g (omega arith)) f
 
-  scanned_better : (n : ℕ) (b : Best) (x : MetaRead) → meta_of (page_of img n) ≡ x → Scanned img n b → Scanned img (suc n) (better b n x)
+  scanned_better : (n : ℕ) (b : Best) (x : Option MetaHeader) → meta_of (page_of img n) ≡ x → Scanned img n b → Scanned img (suc n) (better b n x)
   unfolding better
-  scanned_better n b Missing e s =
+  scanned_better n b None e s =
       record {
         most = λ q m h r. below n q h (λ k. s.most q m k r) (λ k. absurd (clash (sym e ∙ ap (λ (q : ℕ). meta_of (page_of img q)) (sym k) ∙ r)));
         wins = λ o. let w = s.wins o in record {
@@ -68,22 +67,22 @@ module _ (img : List ℕ) where
           lowest = w.lowest;
         };
       }
-  scanned_better n b (Found m₀) e s = by (ltb b.seq m₀.seq) refl
+  scanned_better n b (Some m₀) e s = by (ltb b.seq m₀.seq) refl
     where
-      same : (q : ℕ) (m : MetaHeader) → q ≡ n → meta_of (page_of img q) ≡ Found m → m ≡ m₀
-      same q m k r = let z : Found m ≡ Found m₀ = sym r ∙ ap (λ (q : ℕ). meta_of (page_of img q)) k ∙ e in cc
+      same : (q : ℕ) (m : MetaHeader) → q ≡ n → meta_of (page_of img q) ≡ Some m → m ≡ m₀
+      same q m k r = let z : Some m ≡ Some m₀ = sym r ∙ ap (λ (q : ℕ). meta_of (page_of img q)) k ∙ e in cc
 
       by : (t : Bool) → ltb b.seq m₀.seq ≡ t → Scanned img (suc n) (cond t (best_of n m₀) b)
       by true t =
           let l : b.seq < m₀.seq = ltb-true _ _ t in
-          let top : (q : ℕ) (m : MetaHeader) → q < suc n → meta_of (page_of img q) ≡ Found m → m.seq ≤ m₀.seq =
+          let top : (q : ℕ) (m : MetaHeader) → q < suc n → meta_of (page_of img q) ≡ Some m → m.seq ≤ m₀.seq =
           λ q m h r. below n q h (λ k. omega (arith, s.most q m k r)) (λ k. omega (arith, ap (λ (m : MetaHeader). m.seq) (same q m k r))) in record {
             most = top;
             wins = λ o. record { inside = omega arith; reads = e; some = o; most = top; lowest = λ q m h r. omega (arith, s.most q m h r) };
           }
       by false t =
           let l : m₀.seq ≤ b.seq = ltb-false _ _ t in
-          let top : (q : ℕ) (m : MetaHeader) → q < suc n → meta_of (page_of img q) ≡ Found m → m.seq ≤ b.seq =
+          let top : (q : ℕ) (m : MetaHeader) → q < suc n → meta_of (page_of img q) ≡ Some m → m.seq ≤ b.seq =
           λ q m h r. below n q h (λ k. s.most q m k r) (λ k. omega (arith, ap (λ (m : MetaHeader). m.seq) (same q m k r))) in record {
             most = top;
             wins = λ o. let w = s.wins o in
@@ -106,7 +105,7 @@ module _ (img : List ℕ) where
       let p : a.page ≡ b.page = split a.page b.page
       (λ h. split b.page a.page (λ k. omega arith) (λ k. absurd (omega (arith, w.lowest a.page _ k v.reads))))
       (λ h. absurd (omega (arith, v.lowest b.page _ h w.reads))) in
-      let r : Found (record { page_count = a.page_count; seq = a.seq }) ≡ Found (record { page_count = b.page_count; seq = b.seq }) =
+      let r : Some (record { page_count = a.page_count; seq = a.seq }) ≡ Some (record { page_count = b.page_count; seq = b.seq }) =
       sym v.reads ∙ ap (λ (q : ℕ). meta_of (page_of img q)) p ∙ w.reads in
       let h = found_one _ _ r in
       let c : a.page_count ≡ b.page_count = ap (λ (m : MetaHeader). m.page_count) h in

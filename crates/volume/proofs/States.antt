@@ -1,5 +1,7 @@
 -- What format and a successful mount leave: a state that counts as mounted, records in shape; and that format's stores are clean, of
 -- bytes, and on the page that allocation gives. Assumes nothing.
+use Rattle.std.specs.Prelude.{Some}
+use Rattle.state.specs.Refusals.{Done, fine}
 use mathlib.Core.Path.{◌≡◌, refl, sym, ap, ◌∙◌, subst}
 use mathlib.Core.Bool.{true}
 use mathlib.Core.Logic.{◌⊎◌, inl, inr, ⊎_elim}
@@ -16,12 +18,9 @@ use Rattle.page.specs.Store.{Store, erase, program, stored, ran, Cleans}
 use Rattle.page.proofs.Laws.{Every, every_map, every_append, stored_length, ran_length, cleans_append, take_replicate, bytes_replicate, OfBytes}
 use Rattle.page.proofs.Back.{meta_clean, bytes_meta}
 use Rattle.page.proofs.Headers.{header_bounds}
-use Rattle.map.specs.declared.Alloc.TheVariants.{Page}
 use Rattle.map.specs.Map.{alloc_of, cleared}
 use Rattle.map.proofs.Laws.{cleared_length, cleared_below, beyond_inside}
 use Rattle.state.specs.declared.types.FileRecord.{FileRecord}
-use Rattle.state.specs.declared.types.Done.{Done}
-use Rattle.state.specs.declared.types.Done.TheVariants.{Done as Fine}
 use Rattle.state.specs.Values.{empty_record, absent, in_shape, no_writer, no_search, settled}
 use Rattle.state.specs.Checks.{sizes, writer_ok, search_ok, is_mounted}
 use Rattle.state.specs.World.{World, Outcome}
@@ -56,7 +55,7 @@ format_state w fit =
     (settled_mounted n n (seed % n) 1 _ seed z.0 z.1 (omega arith) (mod-lt seed some) (beyond_inside n (seed % n) some))
 
 -- and so does a mount that succeeds
-pub mount_state : (w : World) → (mount w).answer ≡ Fine → is_mounted (mount w).state ≡ true
+pub mount_state : (w : World) → (mount w).answer ≡ fine → is_mounted (mount w).state ≡ true
 mount_state w h =
     let x = mount_says w h in
     let m = x.mounted in
@@ -119,7 +118,7 @@ module _ (img : List ℕ) (p : ℕ) where
 -- ---- the page that format takes
 
 -- with every page free, allocation takes the cursor's page
-pub format_allocates : (n p : ℕ) → p < n → alloc_of (cleared n n) n p ≡ Page p
+pub format_allocates : (n p : ℕ) → p < n → alloc_of (cleared n n) n p ≡ Some p
 unfolding alloc_of
 format_allocates n p h =
     let l = cleared_length n n in

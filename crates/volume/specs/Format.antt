@@ -1,23 +1,20 @@
 -- Format, by document 01, "Mount", its last sentence, and leaves 3 and 4; DECISIONS 9. Assumes nothing: these are definitions.
-use Rattle.std.specs.Prelude.{ℕ, zero, suc, ◌%◌, cond, List, [], ◌∷◌, ◌++◌, eqb, length, set}
+use Rattle.state.specs.Refusals.{Done, fine}
+use Rattle.std.specs.Prelude.{ℕ, zero, suc, ◌%◌, cond, List, [], ◌∷◌, ◌++◌, eqb, length, set, Option, Some, None}
 use Rattle.seq.specs.Seed.{seed_after}
 use Rattle.page.specs.declared.MetaHeader.{MetaHeader}
-use Rattle.page.specs.declared.MetaRead.{MetaRead}
-use Rattle.page.specs.declared.MetaRead.TheVariants.{Found, Missing}
 use Rattle.page.specs.Page.{page_of, meta_of}
 use Rattle.page.specs.Store.{Store, erase, meta_store}
 use Rattle.map.specs.Map.{cleared, used, beyond}
-use Rattle.state.specs.declared.types.Done.{Done}
-use Rattle.state.specs.declared.types.Done.TheVariants.{Done as Fine}
 use Rattle.state.specs.declared.types.Refusal.TheVariants.{BadSize}
 use Rattle.state.specs.Values.{empty_table, settled}
 use Rattle.state.specs.Checks.{sizes}
 use Rattle.state.specs.World.{World, Outcome, refuse}
 
 -- the metadata pages of the first n pages, and page p, in ascending order
-abbrev pub erased_if : ℕ → ℕ → MetaRead → List Store
-erased_if p n (Found m) = erase n ∷ []
-erased_if p n Missing = cond (eqb n p) (erase n ∷ []) []
+abbrev pub erased_if : ℕ → ℕ → Option MetaHeader → List Store
+erased_if p n (Some m) = erase n ∷ []
+erased_if p n None = cond (eqb n p) (erase n ∷ []) []
 
 unfoldable pub erasures : List ℕ → ℕ → ℕ → List Store
 erasures img p zero = []
@@ -35,7 +32,7 @@ format_stores img p n = erasures img p n ++ meta_store p (first_meta n) ∷ []
 unfoldable pub formatted : World → ℕ → ℕ → Outcome Done
 formatted w n seed =
     record {
-      answer = Fine;
+      answer = fine;
       stores = format_stores w.image (seed % n) n;
       map = set (cleared n n) (seed % n) used;
       table = empty_table;

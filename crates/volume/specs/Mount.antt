@@ -1,5 +1,6 @@
 -- Mount, by document 01, "Mount"; DECISIONS 10 and 11. Assumes nothing: these are definitions.
-use Rattle.std.specs.Prelude.{ℕ, zero, suc, ◌+◌, ◌%◌, Bool, false, cond, ◌&&◌, List, [], ◌∷◌, eqb, leb, ltb, length, get_or, set, replicate}
+use Rattle.state.specs.Refusals.{Done, fine}
+use Rattle.std.specs.Prelude.{ℕ, zero, suc, ◌+◌, ◌%◌, Bool, false, cond, ◌&&◌, List, [], ◌∷◌, eqb, leb, ltb, length, get_or, set, replicate, Err}
 use Rattle.seq.specs.Ids.{none}
 use Rattle.seq.specs.Seq.{limit}
 use Rattle.seq.specs.Seed.{seed_after}
@@ -13,8 +14,6 @@ use Rattle.chain.specs.declared.PagePointer.{PagePointer}
 use Rattle.chain.specs.Files.{last_of}
 use Rattle.chain.specs.Steps.{read_at, Sought, damaged, at, Trace, walk, visited}
 use Rattle.state.specs.declared.types.FileRecord.{FileRecord}
-use Rattle.state.specs.declared.types.Done.{Done}
-use Rattle.state.specs.declared.types.Done.TheVariants.{Done as Fine, Refused}
 use Rattle.state.specs.declared.types.Refusal.TheVariants.{BadSize, Damaged}
 use Rattle.state.specs.Values.{empty_record, unmounted, settled}
 use Rattle.state.specs.Checks.{sizes}
@@ -96,10 +95,10 @@ mount_from img n b = cond (best_ok n b) (mount_read img n b (replay_of b.page_co
 -- Damaged leaves the state unmounted, the map all zero, and seed and table as they were
 abbrev pub mounted_as : World → ℕ → ℕ → Best → Maybe LoadedAll → Outcome Done
 mounted_as w n seed b bad =
-    record { answer = Refused Damaged; stores = []; map = replicate n 0; table = w.table; state = unmounted w.state.seed }
+    record { answer = Err Damaged; stores = []; map = replicate n 0; table = w.table; state = unmounted w.state.seed }
 mounted_as w n seed b (good x) =
     record {
-      answer = Fine;
+      answer = fine;
       stores = [];
       map = x.map;
       table = record { files = x.files };

@@ -1,11 +1,11 @@
 -- A successful mount in declarative words, by document 01, "Mount"; DECISIONS 10 and 11. Assumes nothing: these are definitions.
-use Rattle.std.specs.Prelude.{◌≡◌, true, cond, ◌⊎◌, List, [], ◌∷◌, ◌++◌, ℕ, suc, ◌+◌, ◌%◌, ◌≤◌, ◌<◌, length, get_or}
+use Rattle.state.specs.Refusals.{Done, fine}
+use Rattle.std.specs.Prelude.{◌≡◌, true, cond, ◌⊎◌, List, [], ◌∷◌, ◌++◌, ℕ, suc, ◌+◌, ◌%◌, ◌≤◌, ◌<◌, length, get_or, Some}
 use Rattle.seq.specs.Ids.{none}
 use Rattle.seq.specs.Seq.{limit}
 use Rattle.seq.specs.Seed.{seed_after}
 use Rattle.page.specs.declared.DataHeader.{DataHeader}
 use Rattle.page.specs.declared.MetaHeader.{MetaHeader}
-use Rattle.page.specs.declared.MetaRead.TheVariants.{Found}
 use Rattle.page.specs.Page.{readable, page_of, meta_of}
 use Rattle.metalog.specs.declared.Entry.{Entry}
 use Rattle.metalog.specs.declared.Files.{Files}
@@ -16,8 +16,6 @@ use Rattle.chain.specs.Files.{last_of}
 use Rattle.chain.specs.Steps.{read_at, at, walk, visited}
 use Rattle.chain.specs.Walk.{Distinct}
 use Rattle.state.specs.declared.types.FileRecord.{FileRecord}
-use Rattle.state.specs.declared.types.Done.{Done}
-use Rattle.state.specs.declared.types.Done.TheVariants.{Done as Fine}
 use Rattle.state.specs.Values.{empty_record, is_empty, settled}
 use Rattle.state.specs.Checks.{sizes}
 use Rattle.state.specs.World.{World, Outcome}
@@ -29,10 +27,10 @@ use Rattle.volume.specs.Mount.{record_of}
 -- its header reads and its seq is above 0; no other has a higher seq, and none before it the same
 pub record Wins (img : List ℕ) (n : ℕ) (b : Best) : Type 0 where
   pub inside : b.page < n
-  pub reads : meta_of (page_of img b.page) ≡ Found (record { page_count = b.page_count; seq = b.seq })
+  pub reads : meta_of (page_of img b.page) ≡ Some (record { page_count = b.page_count; seq = b.seq })
   pub some : 1 ≤ b.seq
-  pub most : (q : ℕ) (m : MetaHeader) → q < n → meta_of (page_of img q) ≡ Found m → m.seq ≤ b.seq
-  pub lowest : (q : ℕ) (m : MetaHeader) → q < b.page → meta_of (page_of img q) ≡ Found m → m.seq < b.seq
+  pub most : (q : ℕ) (m : MetaHeader) → q < n → meta_of (page_of img q) ≡ Some m → m.seq ≤ b.seq
+  pub lowest : (q : ℕ) (m : MetaHeader) → q < b.page → meta_of (page_of img q) ≡ Some m → m.seq < b.seq
 
 -- ---- its log
 
@@ -104,7 +102,7 @@ abbrev pub finds : World → Best → List FileRecord → List ℕ → Outcome D
 finds w b files map =
     let seed = seed_after w.state.seed in
     record {
-      answer = Fine;
+      answer = fine;
       stores = [];
       map = map;
       table = record { files = files };

@@ -1,9 +1,7 @@
 -- The best metadata page, by document 01, "Mount": among readable metadata headers the highest seq above 0, the lower id on a tie.
 -- Assumes nothing: these are definitions.
-use Rattle.std.specs.Prelude.{ℕ, zero, suc, cond, List, ltb}
+use Rattle.std.specs.Prelude.{ℕ, zero, suc, cond, List, ltb, Option, Some, None}
 use Rattle.page.specs.declared.MetaHeader.{MetaHeader}
-use Rattle.page.specs.declared.MetaRead.{MetaRead}
-use Rattle.page.specs.declared.MetaRead.TheVariants.{Found, Missing}
 use Rattle.page.specs.Page.{page_of, meta_of}
 use Rattle.volume.specs.declared.Best.{Best}
 
@@ -15,9 +13,9 @@ abbrev pub best_of : ℕ → MetaHeader → Best
 best_of p m = record { page = p; page_count = m.page_count; seq = m.seq }
 
 -- the better of the best so far and page p: only a higher seq replaces it
-unfoldable pub better : Best → ℕ → MetaRead → Best
-better b p Missing = b
-better b p (Found m) = cond (ltb b.seq m.seq) (best_of p m) b
+unfoldable pub better : Best → ℕ → Option MetaHeader → Best
+better b p None = b
+better b p (Some m) = cond (ltb b.seq m.seq) (best_of p m) b
 
 -- of the first n pages
 unfoldable pub scan : List ℕ → ℕ → Best

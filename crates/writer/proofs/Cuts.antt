@@ -1,4 +1,5 @@
 -- Any cutting of the same bytes into writes gives the same. Assumes nothing.
+use Rattle.std.specs.Prelude.{Option, Some, None}
 use Prim.Native.Nat.{ℕ, zero, suc, ◌+◌, ◌-◌, ◌≤◌, ◌<◌}
 use mathlib.Core.Path.{◌≡◌, refl, sym, ap, ap₂, subst, ◌∙◌}
 use mathlib.Core.Bool.{Bool, true, false, cond}
@@ -12,8 +13,6 @@ use Rattle.seq.specs.Ids.{none}
 use Rattle.runs.specs.Runs.{splice, placed}
 use Rattle.runs.proofs.Laws.{length_splice, drop_splice, placed_in, placed_out}
 use Rattle.page.proofs.Laws.{split}
-use Rattle.map.specs.declared.Alloc.{Alloc}
-use Rattle.map.specs.declared.Alloc.TheVariants.{Page, Full}
 use Rattle.map.specs.Map.{alloc_of}
 use Rattle.state.specs.declared.types.Writer.{Writer}
 use Rattle.writer.specs.Staging.{is_staged, flushed, on_page, filled_by, space}
@@ -72,9 +71,9 @@ ready_staged count x = by (eqb (space x.writer) 0)
     flush_same true = refl
     flush_same false = refl
 
-    page_same : (a : Alloc) → (staged count (flushes x) a).writer.staged ≡ x.writer.staged
-    page_same (Page p) = flush_same (is_staged x.writer)
-    page_same Full = flush_same (is_staged x.writer)
+    page_same : (a : Option ℕ) → (staged count (flushes x) a).writer.staged ≡ x.writer.staged
+    page_same (Some p) = flush_same (is_staged x.writer)
+    page_same None = flush_same (is_staged x.writer)
 
     by : (b : Bool) → (cond b (next_page count x) x).writer.staged ≡ x.writer.staged
     by true = ap (λ (z : Writing). z.writer.staged) (next_is count x) ∙ page_same (alloc_of x.map count x.cursor)

@@ -1,4 +1,5 @@
 -- The calls' definitions, exit by exit, in the order of their tests. Assumes nothing.
+use Rattle.std.specs.Prelude.{Err}
 use Prim.Native.Nat.{ℕ, ◌+◌, ◌<◌}
 use mathlib.Core.Path.{◌≡◌, refl, sym, ap, ◌∙◌}
 use mathlib.Core.Bool.{Bool, true, false, cond, not, ◌&&◌}
@@ -19,9 +20,7 @@ use Rattle.state.specs.declared.types.Writer.{Writer}
 use Rattle.state.specs.declared.types.Refusal.{Refusal}
 use Rattle.state.specs.declared.types.Refusal.TheVariants.{Damaged, NoRoom, SeqEnd, NoSearch}
 use Rattle.state.specs.declared.types.Out.{Out}
-use Rattle.state.specs.declared.types.Done.{Done}
-use Rattle.state.specs.declared.types.Done.TheVariants.{Done as Fine, Refused}
-use Rattle.state.specs.Refusals.{on_done}
+use Rattle.state.specs.Refusals.{on_done, Done, fine}
 use Rattle.state.specs.declared.types.Table.{Table}
 use Rattle.state.specs.Values.{file_at, with_file, no_writer, opened, with_writer}
 use Rattle.state.specs.Checks.{checks}
@@ -48,13 +47,13 @@ write_by w l =
 
     by : (a b c : Bool)
         → cond a (refuse w NoSearch) (cond b (refuse w SeqEnd) (cond c (refuse w NoRoom) o))
-        ≡ on_done (cond a (Refused NoSearch) (cond b (Refused SeqEnd) (cond c (Refused NoRoom) Fine))) (refuse w) o
+        ≡ on_done (cond a (Err NoSearch) (cond b (Err SeqEnd) (cond c (Err NoRoom) fine))) (refuse w) o
     by true b c = refl
     by false true c = refl
     by false false true = refl
     by false false false = refl
 
-never : {why : Refusal} → Refused why ≡ Fine → ⊥
+never : {why : Refusal} → Err why ≡ fine → ⊥
 never e = let z : ◌≡◌ {A = ℕ} 0 1 = cc in omega arith
 
 -- enough pages are free where they are not too few
@@ -67,12 +66,12 @@ enough m count k = by (eqb k 0) refl (ltb (free_count (take count m)) (k + 1)) r
     by false e true f h s = let z : ◌≡◌ {A = ℕ} 0 1 = cc in absurd (omega arith)
     by false e false f h s = omega (arith, ltb-false (free_count (take count m)) (k + 1) f)
 
-pub may_active : (m : List ℕ) (s : State) (len : ℕ) → may_write m s len ≡ Fine → s.writer.active ≡ true
+pub may_active : (m : List ℕ) (s : State) (len : ℕ) → may_write m s len ≡ fine → s.writer.active ≡ true
 unfolding may_write
 may_active m s len h = cond_by (not s.writer.active) _ _ _ h (λ a q. absurd (never q)) (λ a q. not-false s.writer.active a)
 
 -- what is not refused is sound
-pub may_sound : (m : List ℕ) (s : State) (len : ℕ) → MountedState s → may_write m s len ≡ Fine → Sound s.page_count len m s.cursor s.writer
+pub may_sound : (m : List ℕ) (s : State) (len : ℕ) → MountedState s → may_write m s len ≡ fine → Sound s.page_count len m s.cursor s.writer
 unfolding may_write
 may_sound m s len g h =
     cond_by (not s.writer.active) _ _ _ h (λ a q. absurd (never q))
@@ -97,17 +96,17 @@ cond_off b x y e = rw e
 
 module _ (w : World) (busy : Bool) (file : ℕ) (rest : Outcome Done) (d : Done)
     (e : d ≡ checks (length w.image) (length w.map) w.state busy file) where
-  pub checked_refused : (why : Refusal) → d ≡ Refused why → record { answer = d; world = w } ≡ ended w (checked w busy file (refuse w) rest)
+  pub checked_refused : (why : Refusal) → d ≡ Err why → record { answer = d; world = w } ≡ ended w (checked w busy file (refuse w) rest)
   checked_refused why h = rw (← e, h)
 
-  pub checked_passed : d ≡ Fine → checked w busy file (refuse w) rest ≡ rest
+  pub checked_passed : d ≡ fine → checked w busy file (refuse w) rest ≡ rest
   checked_passed h = rw (← e, h)
 
 -- a world with another answer, table and state
 pub answered : (w : World) (r : Out) (a : Done) → r ≡ out_of a w.table w.state → after r w.image w.map ≡ record { answer = a; world = w }
 answered w r a e = rw e
 
-module _ (w : World) (d : Done) (e : d ≡ checks (length w.image) (length w.map) w.state false 0) (f : d ≡ Fine) where
+module _ (w : World) (d : Done) (e : d ≡ checks (length w.image) (length w.map) w.state false 0) (f : d ≡ fine) where
   abbrev x : Writer
   x = w.state.writer
 
@@ -146,18 +145,18 @@ module _ (w : World) (d : Done) (e : d ≡ checks (length w.image) (length w.map
       by (pages l) u = let z : ◌≡◌ {A = ℕ} 0 1 = cc in absurd (omega arith)
 
   pub discard_done : w.state.writer.active ≡ true → unbroken walked ≡ true
-      → discard w ≡ record { answer = Fine; stores = []; map = marked (freed_by w.map walked) w.state.writer.page free; table = w.table; state = with_writer w.state no_writer }
+      → discard w ≡ record { answer = fine; stores = []; map = marked (freed_by w.map walked) w.state.writer.page free; table = w.table; state = with_writer w.state no_writer }
   discard_done a u = discard_in ∙ cond_on _ _ _ a ∙ by walked u
     where
       by : (b : Back) → unbroken b ≡ true
-          → discarded_by w w.state.writer b ≡ record { answer = Fine; stores = []; map = marked (freed_by w.map b) w.state.writer.page free; table = w.table; state = with_writer w.state no_writer }
+          → discarded_by w w.state.writer b ≡ record { answer = fine; stores = []; map = marked (freed_by w.map b) w.state.writer.page free; table = w.table; state = with_writer w.state no_writer }
       by lost u = let z : ◌≡◌ {A = ℕ} 0 1 = cc in absurd (omega arith)
       by (pages l) u = refl
 
   -- ---- a record's end
 
   abbrev ends : Outcome Done
-  ends = record { answer = Fine; stores = []; map = w.map; table = w.table; state = with_writer w.state (record_ended w.state.writer) }
+  ends = record { answer = fine; stores = []; map = w.map; table = w.table; state = with_writer w.state (record_ended w.state.writer) }
 
   end_in_lem : record_end w ≡ cond w.state.writer.active ends (refuse w NoSearch)
   unfolding record_end
@@ -172,21 +171,21 @@ module _ (w : World) (d : Done) (e : d ≡ checks (length w.image) (length w.map
   -- ---- a write
 
   module _ (l : List ℕ) where
-    write_in_lem : write w l ≡ cond (eqb (length l) 0) (kept w Fine) (write_in w l)
+    write_in_lem : write w l ≡ cond (eqb (length l) 0) (kept w fine) (write_in w l)
     unfolding write
     write_in_lem = checked_passed w false 0 _ d e f
 
-    pub write_empty : length l ≡ 0 → write w l ≡ kept w Fine
+    pub write_empty : length l ≡ 0 → write w l ≡ kept w fine
     write_empty h = write_in_lem ∙ cond_on _ _ _ (eq-eqb (length l) 0 h)
 
     module _ (some : length l ≡ 0 → ⊥) (may : Done) (g : may ≡ may_write w.map w.state (length l)) where
       write_may : write w l ≡ on_done may (refuse w) (written_as w (write_from w.state.page_count (length l) l (begun w)))
       write_may = write_in_lem ∙ cond_off _ _ _ (ne_eqb (length l) 0 some) ∙ write_by w l ∙ rw (← g)
 
-      pub write_refused : (why : Refusal) → may ≡ Refused why → record { answer = may; world = w } ≡ ended w (write w l)
+      pub write_refused : (why : Refusal) → may ≡ Err why → record { answer = may; world = w } ≡ ended w (write w l)
       write_refused why h = sym (ap (ended w) write_may ∙ rw h)
 
-      pub write_done : may ≡ Fine → write w l ≡ written_as w (write_from w.state.page_count (length l) l (begun w))
+      pub write_done : may ≡ fine → write w l ≡ written_as w (write_from w.state.page_count (length l) l (begun w))
       write_done h = write_may ∙ rw h
 
 -- ---- a page finished
@@ -197,7 +196,7 @@ pub finished_is : (w : World) (img m s : List ℕ) (h : DataHeader) (t : Table) 
     → m ≡ marked w.map w.state.writer.copied held
     → t ≡ with_file w.table w.state.writer.file (grown (file_at w.table w.state.writer.file) w.state.writer)
     → st ≡ with_writer (opened w.state) no_writer
-    → record { answer = Fine; world = before img m t st } ≡ ended w (finished w w.state.writer)
+    → record { answer = fine; world = before img m t st } ≡ ended w (finished w w.state.writer)
 unfolding finished
 finished_is w img m s h t st eh es ei em et ex =
     let x = w.state.writer in

@@ -1,5 +1,6 @@
 -- What a writer writes is what its pages hold: old bytes, then those of each write, in full pages but the last, each linked by the
 -- rule to the page before it. Assumes nothing.
+use Rattle.std.specs.Prelude.{Some}
 use Prim.Native.Nat.{ℕ, ◌+◌, ◌≤◌, ◌<◌}
 use mathlib.Core.Path.{◌≡◌, refl, sym, ap, subst, ◌∙◌}
 use mathlib.Core.Bool.{Bool, true, false, cond, not}
@@ -16,7 +17,6 @@ use Rattle.runs.proofs.Laws.{placed_in}
 use Rattle.page.specs.Page.{readable}
 use Rattle.page.specs.Store.{ran}
 use Rattle.page.proofs.Laws.{ran_append, ran_length}
-use Rattle.map.specs.declared.Alloc.TheVariants.{Page}
 use Rattle.map.specs.Map.{used, beyond}
 use Rattle.map.proofs.Laws.{Found, alloc_found, alloc_some}
 use Rattle.chain.specs.declared.PagePointer.{PagePointer}
@@ -166,7 +166,7 @@ module _ (count d : ℕ) (most : d ≤ 224) (img : List ℕ) (old : List PagePoi
       let o : a.page ≡ none → ⊥ = λ z. omega (arith, f.inside, s.able.few) in
       let q = page_holds count d _ g.0 b x.cursor a.page (beyond count a.page) g.1 g.3 f in
       let i : ran img (x.stores ++ stores_of x.writer) ≡ ran (ran img x.stores) (stores_of x.writer) = ran_append img x.stores (stores_of x.writer) in
-      let r : Held b (staged count (flushes x) (Page a.page)) = (g.0, rw i q, page_undoes old was x.map (unstaged x.writer) g.0 g.2 a.page g.3 o f.free) in
+      let r : Held b (staged count (flushes x) (Some a.page)) = (g.0, rw i q, page_undoes old was x.map (unstaged x.writer) g.0 g.2 a.page g.3 o f.free) in
       subst (Held b) (sym (next_is count x ∙ ap (staged count (flushes x)) a.is)) r
 
   held_put : (b : List ℕ) (x : Writing) (a : List ℕ) → Able count x.cursor x.writer → 0 < space x.writer → length a ≤ space x.writer → Held b x → Held (b ++ a) (put x a)

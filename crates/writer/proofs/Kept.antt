@@ -1,5 +1,7 @@
 -- What a write leaves of the writer and the state: the state still counts as mounted, and there is room for what was to come.
 -- Assumes nothing.
+use Rattle.std.specs.Prelude.{Option, Some, None, Err}
+use Rattle.state.specs.Refusals.{fine}
 use Prim.Native.Nat.{ℕ, zero, suc, ◌+◌, ◌≤◌, ◌<◌}
 use mathlib.Core.Path.{◌≡◌, refl, sym, ap, subst, ◌∙◌}
 use mathlib.Core.Bool.{Bool, true, false, cond, not, ◌&&◌, ◌||◌, and-false}
@@ -12,14 +14,11 @@ use lib.ListN.{length, take, drop, length-take, length-drop, length-set, take-ap
 use Rattle.seq.specs.Ids.{none}
 use Rattle.seq.specs.Seq.{limit}
 use Rattle.page.proofs.Laws.{split}
-use Rattle.map.specs.declared.Alloc.{Alloc}
-use Rattle.map.specs.declared.Alloc.TheVariants.{Page, Full}
 use Rattle.map.specs.Map.{alloc_of, free_count}
 use Rattle.map.proofs.Laws.{alloc_found}
 use Rattle.state.specs.declared.types.Writer.{Writer}
 use Rattle.state.specs.declared.types.State.{State}
 use Rattle.state.specs.declared.types.Refusal.TheVariants.{BadSize, NotMounted, Busy, BadFile}
-use Rattle.state.specs.declared.types.Done.TheVariants.{Done as Fine, Refused}
 use Rattle.state.specs.Values.{with_cursor, with_writer}
 use Rattle.state.specs.Checks.{id_ok, writer_ok, search_ok, is_mounted, wrong_size, checks}
 use Rattle.state.proofs.Laws.{both, OpenWriter}
@@ -106,9 +105,9 @@ next_known count w x a k = subst (Known count w) (sym (next_is count x)) (by (al
     f : Known count w (flushes x)
     f = flush_known count w x k
 
-    by : (z : Alloc) → alloc_of x.map count x.cursor ≡ z → Known count w (staged count (flushes x) z)
-    by Full e = f
-    by (Page p) e =
+    by : (z : Option ℕ) → alloc_of x.map count x.cursor ≡ z → Known count w (staged count (flushes x) z)
+    by None e = f
+    by (Some p) e =
         record {
           active = f.active;
           file = f.file;
@@ -159,18 +158,18 @@ pub checks_same : (image map : ℕ) (s s' : State) (busy : Bool) (file : ℕ) �
 unfolding checks
 checks_same image map s s' busy file e p = rw (e, p)
 
-pub checks_mounted : (image map : ℕ) (s : State) (busy : Bool) (file : ℕ) → checks image map s busy file ≡ Fine → is_mounted s ≡ true
+pub checks_mounted : (image map : ℕ) (s : State) (busy : Bool) (file : ℕ) → checks image map s busy file ≡ fine → is_mounted s ≡ true
 unfolding checks
 checks_mounted image map s busy file h = by (is_mounted s) (wrong_size image map (is_mounted s) s.pages) h
   where
-    by : (m b : Bool) → cond b (Refused BadSize) (cond m (cond busy (Refused Busy) (cond (ltb 7 file) (Refused BadFile) Fine)) (Refused NotMounted)) ≡ Fine → m ≡ true
+    by : (m b : Bool) → cond b (Err BadSize) (cond m (cond busy (Err Busy) (cond (ltb 7 file) (Err BadFile) fine)) (Err NotMounted)) ≡ fine → m ≡ true
     by true b h = refl
     by false true h = let z : ◌≡◌ {A = ℕ} 0 1 = cc in absurd (omega arith)
     by false false h = let z : ◌≡◌ {A = ℕ} 0 1 = cc in absurd (omega arith)
 
 -- ---- what is sound is not refused
 
-pub sound_may : (m : List ℕ) (s : State) (len : ℕ) → s.writer.active ≡ true → Sound s.page_count len m s.cursor s.writer → may_write m s len ≡ Fine
+pub sound_may : (m : List ℕ) (s : State) (len : ℕ) → s.writer.active ≡ true → Sound s.page_count len m s.cursor s.writer → may_write m s len ≡ fine
 unfolding may_write too_few
 sound_may m s len on h =
     cond_off _ _ _ (ap not on)

@@ -1,5 +1,6 @@
 -- Opening a writer on a file whose pages stand in the image: the writer is right behind them, and they and its staged page hold the
 -- file's bytes. Discarding it takes back what it allocated. Assumes nothing.
+use Rattle.state.specs.Refusals.{fine}
 use Prim.Native.Nat.{ℕ, zero, suc, ◌+◌, ◌*◌, ◌≤◌, ◌<◌}
 use mathlib.Core.Path.{◌≡◌, refl, sym, ap, ◌∙◌}
 use mathlib.Core.Bool.{true, false}
@@ -22,7 +23,6 @@ use Rattle.chain.specs.Walk.{Each}
 use Rattle.chain.specs.Files.{last_of}
 use Rattle.chain.proofs.Chains.{step_chain}
 use Rattle.state.specs.declared.types.FileRecord.{FileRecord}
-use Rattle.state.specs.declared.types.Done.TheVariants.{Done as Fine}
 use Rattle.state.specs.Values.{no_writer, with_writer}
 use Rattle.state.specs.Checks.{checks}
 use Rattle.state.specs.World.{World}
@@ -160,15 +160,15 @@ none_of count read zero p h = refl
 none_of count read (suc n) p h = absurd (omega arith)
 
 -- a discard after any writes leaves every page as it was, and the map as it was before the writer was opened
-pub discard_undoes : (d : ℕ) → 0 < d → (w : World) → checks (length w.image) (length w.map) w.state false 0 ≡ Fine → w.state.writer.active ≡ true
+pub discard_undoes : (d : ℕ) → 0 < d → (w : World) → checks (length w.image) (length w.map) w.state false 0 ≡ fine → w.state.writer.active ≡ true
     → (l old : List PagePointer) (b was : List ℕ) (c : ℕ)
     → Holds w.state.page_count d (record { image = w.image; map = w.map; cursor = c; writer = w.state.writer }) l b
     → Undoes old was w.map w.state.writer l
-    → discard w ≡ record { answer = Fine; stores = []; map = was; table = w.table; state = with_writer w.state no_writer }
+    → discard w ≡ record { answer = fine; stores = []; map = was; table = w.table; state = with_writer w.state no_writer }
 discard_undoes d hd w ok on l old b was c h o =
     let e = walked l h.trails o.most in
-    discard_done w Fine (sym ok) refl on (ap unbroken e)
-    ∙ ap (λ (m : List ℕ). record { answer = Fine; stores = []; map = m; table = w.table; state = with_writer w.state no_writer })
+    discard_done w fine (sym ok) refl on (ap unbroken e)
+    ∙ ap (λ (m : List ℕ). record { answer = fine; stores = []; map = m; table = w.table; state = with_writer w.state no_writer })
     (ap (λ (y : Back). marked (freed_by w.map y) w.state.writer.page free) e ∙ o.undo)
   where
     walked : (l : List PagePointer) → Trails w.state.page_count d w.image w.state.writer l → w.state.writer.stored ≤ length l

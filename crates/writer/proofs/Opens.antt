@@ -1,4 +1,6 @@
 -- The definition of opening a writer, exit by exit, in the order of its tests. Assumes nothing.
+use Rattle.std.specs.Prelude.{Some, None}
+use Rattle.state.specs.Refusals.{fine}
 use Prim.Native.Nat.{ℕ, ◌≤◌, ◌<◌}
 use mathlib.Core.Path.{◌≡◌, ap, ◌∙◌}
 use mathlib.Core.Bool.{Bool, true, false, cond}
@@ -8,7 +10,6 @@ use borrow.Author.Tests.{lt-ltb, le-ltb, eq-eqb, ne_eqb}
 use lib.ListN.{length, set}
 use Rattle.seq.specs.Ids.{none}
 use Rattle.seq.specs.Seq.{limit}
-use Rattle.map.specs.declared.Alloc.TheVariants.{Page, Full}
 use Rattle.map.specs.Map.{alloc_of, used, beyond}
 use Rattle.chain.specs.declared.PagePointer.{PagePointer}
 use Rattle.chain.specs.declared.Step.{Step}
@@ -18,7 +19,6 @@ use Rattle.chain.specs.Seek.{told}
 use Rattle.state.specs.declared.types.FileRecord.{FileRecord}
 use Rattle.state.specs.declared.types.State.{State}
 use Rattle.state.specs.declared.types.Writer.{Writer}
-use Rattle.state.specs.declared.types.Done.TheVariants.{Done as Fine}
 use Rattle.state.specs.declared.types.Refusal.TheVariants.{Damaged, NoRoom, SeqEnd}
 use Rattle.state.specs.Values.{is_empty, in_shape, with_cursor, with_writer}
 use Rattle.state.specs.World.{World, ended, refuse, before}
@@ -96,11 +96,11 @@ module _ (w : World) (i : ℕ) (f : FileRecord) where
   -- ---- the copy
 
   pub copied_page : (q : PagePointer) (p : ℕ) (m' : List ℕ) (x : Writer) (k : ℕ)
-      → alloc_of w.map w.state.page_count w.state.cursor ≡ Page p → m' ≡ set w.map p used → x ≡ copy_writer w.image i f q p → k ≡ beyond w.state.page_count p
-      → record { answer = Fine; world = before w.image m' w.table (with_writer (with_cursor w.state k) x) }
+      → alloc_of w.map w.state.page_count w.state.cursor ≡ Some p → m' ≡ set w.map p used → x ≡ copy_writer w.image i f q p → k ≡ beyond w.state.page_count p
+      → record { answer = fine; world = before w.image m' w.table (with_writer (with_cursor w.state k) x) }
       ≡ ended w (copied_to w i f q (alloc_of w.map w.state.page_count w.state.cursor))
   copied_page q p m' x k a em ex ek = rw (a, em, ex, ek)
 
-  pub copied_none : (q : PagePointer) → alloc_of w.map w.state.page_count w.state.cursor ≡ Full
+  pub copied_none : (q : PagePointer) → alloc_of w.map w.state.page_count w.state.cursor ≡ None
       → copied_to w i f q (alloc_of w.map w.state.page_count w.state.cursor) ≡ refuse w NoRoom
   copied_none q a = rw a

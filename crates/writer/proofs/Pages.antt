@@ -1,4 +1,5 @@
 -- The code's next page, by what its parts leave. Assumes nothing.
+use Rattle.std.specs.Prelude.{Option, Some, None}
 use Prim.Native.Nat.{ℕ, ◌<◌}
 use mathlib.Core.Path.{◌≡◌, refl, sym, ap, ◌∙◌}
 use mathlib.Core.Bool.{Bool, true, false, cond}
@@ -8,8 +9,6 @@ use borrow.Author.Tests.{eq-eqb, ne_eqb}
 use lib.ListN.{take}
 use Rattle.page.specs.declared.DataHeader.{DataHeader}
 use Rattle.page.specs.Store.{ran, data_stores}
-use Rattle.map.specs.declared.Alloc.{Alloc}
-use Rattle.map.specs.declared.Alloc.TheVariants.{Page, Full}
 use Rattle.map.specs.Map.{alloc_of, used_by, beyond, allocated, leaves as gives}
 use Rattle.map.proofs.Laws.{allocated_answer, allocated_left, alloc_found, beyond_inside}
 use Rattle.state.specs.declared.types.Writer.{Writer}
@@ -21,13 +20,13 @@ use Rattle.writer.proofs.Sounds.{flushes, next_is}
 
 -- ---- an allocation, as the code has it
 
-pub alloc_told : (m m' : List ℕ) (count cursor : ℕ) (a : Alloc) → gives a m' ≡ allocated m count cursor
+pub alloc_told : (m m' : List ℕ) (count cursor : ℕ) (a : Option ℕ) → gives a m' ≡ allocated m count cursor
     → (alloc_of m count cursor ≡ a) × (m' ≡ used_by m a)
 alloc_told m m' count cursor a e =
     let f = sym (allocated_answer m m' count cursor a e) in
     (f, allocated_left m m' count cursor a e ∙ ap (used_by m) f)
 
-pub alloc_small : (m m' : List ℕ) (count cursor i : ℕ) (a : Alloc) → gives a m' ≡ allocated m count cursor → a ≡ Page i → cursor < count → i < count
+pub alloc_small : (m m' : List ℕ) (count cursor i : ℕ) (a : Option ℕ) → gives a m' ≡ allocated m count cursor → a ≡ Some i → cursor < count → i < count
 alloc_small m m' count cursor i a e p h =
     (alloc_found m count cursor (omega arith) i ((alloc_told m m' count cursor a e).0 ∙ p)).inside
 
@@ -52,24 +51,24 @@ unstaged_staged w s = by (is_staged w)
 
 -- ---- the next page
 
-module _ (img m s : List ℕ) (count : ℕ) (x : Pen) (img' m' : List ℕ) (w : Writer) (a : Alloc)
+module _ (img m s : List ℕ) (count : ℕ) (x : Pen) (img' m' : List ℕ) (w : Writer) (a : Option ℕ)
     (ei : img' ≡ ran img (stores_of (with_staged x.writer s))) (ew : w ≡ unstaged x.writer)
     (ea : gives a m' ≡ allocated m count x.cursor) where
   from : makes img (next_page count (begins m s x)) ≡ makes img (staged count (flushes (begins m s x)) a)
-  from = ap (makes img) (next_is count (begins m s x)) ∙ ap (λ (z : Alloc). makes img (staged count (flushes (begins m s x)) z)) (alloc_told m m' count x.cursor a ea).0
+  from = ap (makes img) (next_is count (begins m s x)) ∙ ap (λ (z : Option ℕ). makes img (staged count (flushes (begins m s x)) z)) (alloc_told m m' count x.cursor a ea).0
 
   same : unstaged (with_staged x.writer s) ≡ with_staged w s
   same = unstaged_staged x.writer s ∙ ap (λ (z : Writer). with_staged z s) (sym ew)
 
-  pub next_page_lem : (i : ℕ) → a ≡ Page i → leaves img' m' s (record { cursor = beyond count i; writer = on_page w i }) ≡ makes img (next_page count (begins m s x))
+  pub next_page_lem : (i : ℕ) → a ≡ Some i → leaves img' m' s (record { cursor = beyond count i; writer = on_page w i }) ≡ makes img (next_page count (begins m s x))
   unfolding on_page
   next_page_lem i e =
-      let em : m' ≡ used_by m (Page i) = (alloc_told m m' count x.cursor a ea).1 ∙ ap (used_by m) e in
+      let em : m' ≡ used_by m (Some i) = (alloc_told m m' count x.cursor a ea).1 ∙ ap (used_by m) e in
       sym (from ∙ rw (e, same, em, ei))
 
-  pub next_full : a ≡ Full → leaves img' m' s (record { cursor = x.cursor; writer = w }) ≡ makes img (next_page count (begins m s x))
+  pub next_full : a ≡ None → leaves img' m' s (record { cursor = x.cursor; writer = w }) ≡ makes img (next_page count (begins m s x))
   next_full e =
-      let em : m' ≡ used_by m Full = (alloc_told m m' count x.cursor a ea).1 ∙ ap (used_by m) e in
+      let em : m' ≡ used_by m None = (alloc_told m m' count x.cursor a ea).1 ∙ ap (used_by m) e in
       sym (from ∙ rw (e, same, em, ei))
 
 -- ---- whether one is needed

@@ -1,5 +1,6 @@
 -- What holds on the way through a write: the sums fit, there is room for what is left, and so a page is found whenever one is needed.
 -- Assumes nothing.
+use Rattle.std.specs.Prelude.{Some}
 use Prim.Native.Nat.{ℕ, ◌+◌, ◌-◌, min, ◌≤◌, ◌<◌}
 use mathlib.Core.Path.{◌≡◌, refl, sym, ap, subst, ◌∙◌}
 use mathlib.Core.Bool.{Bool, true, false, cond, not}
@@ -12,7 +13,6 @@ use lib.ListN.{length, take, drop, length-take, length-drop}
 use Rattle.seq.specs.Ids.{none}
 use Rattle.page.specs.Store.{Store}
 use Rattle.page.proofs.Laws.{split}
-use Rattle.map.specs.declared.Alloc.TheVariants.{Page}
 use Rattle.map.specs.Map.{alloc_of}
 use Rattle.map.proofs.Laws.{alloc_found, alloc_count, alloc_some, beyond_inside}
 use Rattle.state.specs.declared.types.Writer.{Writer}
@@ -137,7 +137,7 @@ next_readied count len x h some e =
     let n : i ≡ none → ⊥ = λ z. omega (arith, f.inside, h.able.few) in
     let w = on_page (unstaged x.writer) i in
     let s : space w ≡ 224 = space_some w n ∙ omega arith in
-    let o : SoundAt count len (staged count (flushes x) (Page i)) =
+    let o : SoundAt count len (staged count (flushes x) (Some i)) =
     record {
       able = record {
         few = h.able.few;
@@ -149,7 +149,7 @@ next_readied count len x h some e =
       end = omega (arith, g.end, h.end);
       room = λ _. rw s (omega (arith, pages_next len some));
     } in
-    let r : Readied count len (staged count (flushes x) (Page i)) = record { sound = o; space = rw s (omega arith) } in
+    let r : Readied count len (staged count (flushes x) (Some i)) = record { sound = o; space = rw s (omega arith) } in
     rw (next_is count x, a.is) r
 
 pub ready_readied : (count len : ℕ) (x : Writing) → SoundAt count len x → 0 < len → Readied count len (ready count x)

@@ -1,4 +1,5 @@
 -- A write turn by turn: fuel, the stores made so far, and what one turn of the code's loop leaves. Assumes nothing.
+use Rattle.std.specs.Prelude.{Option, Some, None}
 use Prim.Native.Nat.{ℕ, zero, suc, ◌+◌, min, ◌≤◌, ◌<◌}
 use mathlib.Core.Path.{◌≡◌, refl, sym, ap, subst, ◌∙◌}
 use mathlib.Core.Bool.{Bool, true, false, cond}
@@ -9,8 +10,6 @@ use lib.Dec.{eqb}
 use lib.ListN.{length, take, drop, length-take, length-drop}
 use Rattle.page.specs.Store.{Store, ran}
 use Rattle.page.proofs.Laws.{ran_append}
-use Rattle.map.specs.declared.Alloc.{Alloc}
-use Rattle.map.specs.declared.Alloc.TheVariants.{Page, Full}
 use Rattle.map.specs.Map.{alloc_of}
 use Rattle.map.proofs.Turns.{take_min}
 use Rattle.state.specs.declared.types.Writer.{Writer}
@@ -52,9 +51,9 @@ write_none count (b ∷ l) x h = absurd (not-suc-le-zero h)
 abbrev pub behind : List Store → Writing → Writing
 behind st x = record { stores = st ++ x.stores; map = x.map; cursor = x.cursor; writer = x.writer }
 
-behind_staged : (count : ℕ) (st : List Store) (x : Writing) (a : Alloc) → staged count (behind st x) a ≡ behind st (staged count x a)
-behind_staged count st x (Page p) = refl
-behind_staged count st x Full = refl
+behind_staged : (count : ℕ) (st : List Store) (x : Writing) (a : Option ℕ) → staged count (behind st x) a ≡ behind st (staged count x a)
+behind_staged count st x (Some p) = refl
+behind_staged count st x None = refl
 
 behind_flushes : (st : List Store) (x : Writing) → flushes (behind st x) ≡ behind st (flushes x)
 behind_flushes st x =

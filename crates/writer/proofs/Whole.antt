@@ -1,5 +1,7 @@
 -- Two writes are one: where a write of l ++ l' succeeds, a write of l and then one of l' succeed, and leave the same image, map,
 -- table and state. Assumes nothing.
+use Rattle.std.specs.Prelude.{Ok, Err}
+use Rattle.state.specs.Refusals.{Done, fine}
 use Prim.Native.Nat.{ℕ, ◌<◌}
 use mathlib.Core.Path.{◌≡◌, refl, sym, ap, subst, ◌∙◌}
 use mathlib.Core.Bool.{true, false}
@@ -9,8 +11,6 @@ use lib.ListN.{length, length-append}
 use Rattle.page.specs.Store.{ran}
 use Rattle.page.proofs.Laws.{ran_length}
 use Rattle.state.specs.declared.types.State.{State}
-use Rattle.state.specs.declared.types.Done.{Done}
-use Rattle.state.specs.declared.types.Done.TheVariants.{Done as Fine, Refused}
 use Rattle.state.specs.declared.types.Refusal.{Refusal}
 use Rattle.state.specs.Values.{with_cursor, with_writer}
 use Rattle.state.specs.Checks.{is_mounted, checks}
@@ -24,32 +24,32 @@ use Rattle.writer.proofs.Exits.{write_done, write_refused, may_sound, may_active
 use Rattle.writer.proofs.Cuts.{cut}
 use Rattle.writer.proofs.Kept.{Known, write_keeps, still_mounted, checks_same, checks_mounted, sound_may}
 
-never : {why : Refusal} → Refused why ≡ Fine → ⊥
+never : {why : Refusal} → Err why ≡ fine → ⊥
 never e = let z : ◌≡◌ {A = ℕ} 0 1 = cc in omega arith
 
 -- a write that is not refused
 pub record Wrote (w : World) (l : List ℕ) : Type 0 where
-  pub checks : checks (length w.image) (length w.map) w.state false 0 ≡ Fine
-  pub may : may_write w.map w.state (length l) ≡ Fine
+  pub checks : checks (length w.image) (length w.map) w.state false 0 ≡ fine
+  pub may : may_write w.map w.state (length l) ≡ fine
 
 -- any that succeeds is such
-pub wrote_says : (w : World) (l : List ℕ) → 0 < length l → (write w l).answer ≡ Fine → Wrote w l
+pub wrote_says : (w : World) (l : List ℕ) → 0 < length l → (write w l).answer ≡ fine → Wrote w l
 unfolding write
 wrote_says w l some h = by (checks (length w.image) (length w.map) w.state false 0) refl
   where
     by : (d : Done) → checks (length w.image) (length w.map) w.state false 0 ≡ d → Wrote w l
-    by (Refused why) e =
-        absurd (never (ap (λ (a : After Done). a.answer) (checked_refused w false 0 _ (Refused why) (sym e) why refl) ∙ h))
-    by Fine e = go (may_write w.map w.state (length l)) refl
+    by (Err why) e =
+        absurd (never (ap (λ (a : After Done). a.answer) (checked_refused w false 0 _ (Err why) (sym e) why refl) ∙ h))
+    by (Ok u) e = go (may_write w.map w.state (length l)) refl
       where
         go : (m : Done) → may_write w.map w.state (length l) ≡ m → Wrote w l
-        go (Refused why) f =
-            absurd (never (ap (λ (a : After Done). a.answer) (write_refused w Fine (sym e) refl l (λ z. omega arith) (Refused why) (sym f) why refl) ∙ h))
-        go Fine f = record { checks = e; may = f }
+        go (Err why) f =
+            absurd (never (ap (λ (a : After Done). a.answer) (write_refused w fine (sym e) refl l (λ z. omega arith) (Err why) (sym f) why refl) ∙ h))
+        go (Ok u) f = record { checks = e; may = f }
 
 wrote_is : (w : World) (l : List ℕ) → 0 < length l → Wrote w l
     → write w l ≡ written_as w (write_from w.state.page_count (length l) l (begun w))
-wrote_is w l some g = write_done w Fine (sym g.checks) refl l (λ e. omega arith) Fine (sym g.may) refl
+wrote_is w l some g = write_done w fine (sym g.checks) refl l (λ e. omega arith) fine (sym g.may) refl
 
 module _ (w : World) (l l' : List ℕ) (some : 0 < length l) (some' : 0 < length l') (full : length w.state.writer.staged ≡ 224)
     (g : Wrote w (l ++ l')) where
@@ -121,7 +121,7 @@ module _ (w : World) (l l' : List ℕ) (some : 0 < length l) (some' : 0 < length
       }
 
   abbrev leave : Made → After Done
-  leave z = record { answer = Fine; world = record { image = z.image; map = z.map; table = w.table; state = with_writer (with_cursor w.state z.cursor) z.writer } }
+  leave z = record { answer = fine; world = record { image = z.image; map = z.map; table = w.table; state = with_writer (with_cursor w.state z.cursor) z.writer } }
 
   pub two_writes : after_call (λ v. write v l') (after_call (λ v. write v l) w).world ≡ after_call (λ v. write v (l ++ l')) w
   unfolding with_writer with_cursor

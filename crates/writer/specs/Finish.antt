@@ -1,5 +1,6 @@
 -- Finishing and discarding a writer, by document 01, "Files and transactions", paragraph "Writer"; DECISIONS 12, 19 and 20.
 -- Assumes nothing: these are definitions.
+use Rattle.state.specs.Refusals.{Done, fine}
 use Rattle.std.specs.Prelude.{ℕ, zero, suc, ◌+◌, true, false, cond, List, [], ◌∷◌, eqb, set}
 use Rattle.seq.specs.Ids.{none}
 use Rattle.page.specs.Page.{Read}
@@ -8,8 +9,6 @@ use Rattle.chain.specs.declared.PagePointer.{PagePointer}
 use Rattle.chain.specs.Steps.{read_at, back_rule, Stepped, stays, reaches, breaks, step}
 use Rattle.state.specs.declared.types.FileRecord.{FileRecord}
 use Rattle.state.specs.declared.types.Writer.{Writer}
-use Rattle.state.specs.declared.types.Done.{Done}
-use Rattle.state.specs.declared.types.Done.TheVariants.{Done as Fine}
 use Rattle.state.specs.declared.types.Refusal.TheVariants.{Damaged, NoSearch}
 use Rattle.state.specs.Values.{file_at, with_file, no_writer, opened, with_writer}
 use Rattle.state.specs.World.{World, Outcome, refuse, checked}
@@ -37,7 +36,7 @@ grown f x =
 unfoldable pub finished : World → Writer → Outcome Done
 finished w x =
     record {
-      answer = Fine;
+      answer = fine;
       stores = flush_stores x;
       map = marked w.map x.copied held;
       table = with_file w.table x.file (grown (file_at w.table x.file) x);
@@ -46,7 +45,7 @@ finished w x =
 
 -- with no page staged it opens none and changes no file
 abbrev pub shut : World → Outcome Done
-shut w = record { answer = Fine; stores = []; map = w.map; table = w.table; state = with_writer w.state no_writer }
+shut w = record { answer = fine; stores = []; map = w.map; table = w.table; state = with_writer w.state no_writer }
 
 unfoldable pub finish : World → Outcome Done
 finish w =
@@ -85,7 +84,7 @@ freed m (p ∷ l) = freed (set m p free) l
 abbrev pub discarded_by : World → Writer → Back → Outcome Done
 discarded_by w x lost = refuse w Damaged
 discarded_by w x (pages l) =
-    record { answer = Fine; stores = []; map = marked (freed w.map l) x.page free; table = w.table; state = with_writer w.state no_writer }
+    record { answer = fine; stores = []; map = marked (freed w.map l) x.page free; table = w.table; state = with_writer w.state no_writer }
 
 unfoldable pub discard : World → Outcome Done
 discard w =

@@ -1,5 +1,6 @@
 -- What the inner functions take and leave, in the words of the calls' definitions. Assumes nothing: these are definitions.
-use Rattle.std.specs.Prelude.{ℕ, ◌+◌, ◌*◌, ◌≤◌, ◌<◌, Bool, true, false, cond, not, List, [], ltb, length, take}
+use Rattle.state.specs.Refusals.{Done, fine}
+use Rattle.std.specs.Prelude.{ℕ, ◌+◌, ◌*◌, ◌≤◌, ◌<◌, Bool, true, false, cond, not, List, [], ltb, length, take, Err}
 use Rattle.seq.specs.Seq.{limit}
 use Rattle.page.specs.Store.{Store, ran}
 use Rattle.map.specs.Map.{free_count}
@@ -9,8 +10,6 @@ use Rattle.state.specs.Values.{with_cursor, with_writer}
 use Rattle.state.specs.declared.types.State.{State}
 use Rattle.state.specs.declared.types.Table.{Table}
 use Rattle.state.specs.declared.types.Out.{Out}
-use Rattle.state.specs.declared.types.Done.{Done}
-use Rattle.state.specs.declared.types.Done.TheVariants.{Done as Fine, Refused}
 use Rattle.state.specs.declared.types.Refusal.TheVariants.{NoRoom, SeqEnd, NoSearch}
 use Rattle.writer.specs.declared.write.Pen.{Pen}
 use Rattle.writer.specs.Staging.{is_staged, flush_stores, flushed, space, pages_for, too_few}
@@ -82,10 +81,10 @@ pub record Sound (count len : ℕ) (map : List ℕ) (at : ℕ) (x : Writer) : Ty
 
 unfoldable pub may_write : List ℕ → State → ℕ → Done
 may_write m s len =
-    cond (not s.writer.active) (Refused NoSearch)
-    (cond (ltb limit (s.writer.seq + s.writer.length + len)) (Refused SeqEnd)
-    (cond (too_few m s.page_count (pages_for (space s.writer) len)) (Refused NoRoom)
-    Fine))
+    cond (not s.writer.active) (Err NoSearch)
+    (cond (ltb limit (s.writer.seq + s.writer.length + len)) (Err SeqEnd)
+    (cond (too_few m s.page_count (pages_for (space s.writer) len)) (Err NoRoom)
+    fine))
 
 -- ---- a discard's walk
 

@@ -1,21 +1,18 @@
 -- Opening a writer, by document 01, "Files and transactions", paragraphs "Writer" and "NoRoom"; DECISIONS 16.
 -- Assumes nothing: these are definitions.
-use Rattle.std.specs.Prelude.{ℕ, true, cond, List, [], eqb, ltb, set, replicate}
+use Rattle.state.specs.Refusals.{Done, fine}
+use Rattle.std.specs.Prelude.{ℕ, true, cond, List, [], eqb, ltb, set, replicate, Option, Some, None}
 use Rattle.seq.specs.Ids.{none}
 use Rattle.seq.specs.Seq.{limit}
 use Rattle.runs.specs.Runs.{part, placed}
 use Rattle.page.specs.declared.DataHeader.{DataHeader}
 use Rattle.page.specs.Page.{page_of, no_header}
-use Rattle.map.specs.declared.Alloc.{Alloc}
-use Rattle.map.specs.declared.Alloc.TheVariants.{Page, Full}
 use Rattle.map.specs.Map.{alloc_of, used, beyond}
 use Rattle.chain.specs.declared.PagePointer.{PagePointer}
 use Rattle.chain.specs.Files.{last_of}
 use Rattle.chain.specs.Steps.{read_at, back_rule, Stepped, stays, reaches, breaks, step}
 use Rattle.state.specs.declared.types.FileRecord.{FileRecord}
 use Rattle.state.specs.declared.types.Writer.{Writer}
-use Rattle.state.specs.declared.types.Done.{Done}
-use Rattle.state.specs.declared.types.Done.TheVariants.{Done as Fine}
 use Rattle.state.specs.declared.types.Refusal.TheVariants.{Damaged, NoRoom, SeqEnd}
 use Rattle.state.specs.Values.{file_at, is_empty, in_shape, with_cursor, with_writer}
 use Rattle.state.specs.World.{World, Outcome, refuse, checked}
@@ -66,14 +63,14 @@ copy_writer img i f q p =
     }
 
 abbrev pub readied : World → ℕ → FileRecord → Outcome Done
-readied w i f = record { answer = Fine; stores = []; map = w.map; table = w.table; state = with_writer w.state (ready_writer i f) }
+readied w i f = record { answer = fine; stores = []; map = w.map; table = w.table; state = with_writer w.state (ready_writer i f) }
 
 -- the copy's page is allocated at once; nothing is stored yet
-abbrev pub copied_to : World → ℕ → FileRecord → PagePointer → Alloc → Outcome Done
-copied_to w i f q Full = refuse w NoRoom
-copied_to w i f q (Page p) =
+abbrev pub copied_to : World → ℕ → FileRecord → PagePointer → Option ℕ → Outcome Done
+copied_to w i f q None = refuse w NoRoom
+copied_to w i f q (Some p) =
     record {
-      answer = Fine;
+      answer = fine;
       stores = [];
       map = set w.map p used;
       table = w.table;

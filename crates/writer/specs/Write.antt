@@ -1,14 +1,11 @@
 -- Writing and ending a record, by document 01, "Files and transactions", paragraphs "Writer" and "NoRoom"; DECISIONS 7, 17 to 19.
 -- Assumes nothing: these are definitions.
-use Rattle.std.specs.Prelude.{ℕ, zero, suc, ◌+◌, false, cond, not, List, [], ◌∷◌, ◌++◌, eqb, ltb, length, take, drop, set}
+use Rattle.state.specs.Refusals.{Done, fine}
+use Rattle.std.specs.Prelude.{ℕ, zero, suc, ◌+◌, false, cond, not, List, [], ◌∷◌, ◌++◌, eqb, ltb, length, take, drop, set, Option, Some, None}
 use Rattle.seq.specs.Seq.{limit}
 use Rattle.page.specs.Store.{Store}
-use Rattle.map.specs.declared.Alloc.{Alloc}
-use Rattle.map.specs.declared.Alloc.TheVariants.{Page, Full}
 use Rattle.map.specs.Map.{alloc_of, used, beyond}
 use Rattle.state.specs.declared.types.Writer.{Writer}
-use Rattle.state.specs.declared.types.Done.{Done}
-use Rattle.state.specs.declared.types.Done.TheVariants.{Done as Fine}
 use Rattle.state.specs.declared.types.Refusal.TheVariants.{NoRoom, SeqEnd, NoSearch}
 use Rattle.state.specs.Values.{with_cursor, with_writer}
 use Rattle.state.specs.World.{World, Outcome, kept, refuse, checked}
@@ -29,9 +26,9 @@ flush x =
     x
 
 -- then a page is allocated; the room was seen to before, so that there is one
-abbrev pub staged : ℕ → Writing → Alloc → Writing
-staged count x Full = x
-staged count x (Page p) = record { stores = x.stores; map = set x.map p used; cursor = beyond count p; writer = on_page x.writer p }
+abbrev pub staged : ℕ → Writing → Option ℕ → Writing
+staged count x None = x
+staged count x (Some p) = record { stores = x.stores; map = set x.map p used; cursor = beyond count p; writer = on_page x.writer p }
 
 unfoldable pub next_page : ℕ → Writing → Writing
 next_page count x = staged count (flush x) (alloc_of (flush x).map count (flush x).cursor)
@@ -58,7 +55,7 @@ begun w = record { stores = []; map = w.map; cursor = w.state.cursor; writer = w
 
 abbrev pub written_as : World → Writing → Outcome Done
 written_as w x =
-    record { answer = Fine; stores = x.stores; map = x.map; table = w.table; state = with_writer (with_cursor w.state x.cursor) x.writer }
+    record { answer = fine; stores = x.stores; map = x.map; table = w.table; state = with_writer (with_cursor w.state x.cursor) x.writer }
 
 -- whole or refused
 unfoldable pub write_in : World → List ℕ → Outcome Done
@@ -69,7 +66,7 @@ write_in w l =
     (written_as w (write_from w.state.page_count (length l) l (begun w)))))
 
 unfoldable pub write : World → List ℕ → Outcome Done
-write w l = checked w false 0 (refuse w) (cond (eqb (length l) 0) (kept w Fine) (write_in w l))
+write w l = checked w false 0 (refuse w) (cond (eqb (length l) 0) (kept w fine) (write_in w l))
 
 -- ---- a record's end
 
@@ -77,5 +74,5 @@ unfoldable pub record_end : World → Outcome Done
 record_end w =
     checked w false 0 (refuse w)
     (cond w.state.writer.active
-    (record { answer = Fine; stores = []; map = w.map; table = w.table; state = with_writer w.state (record_ended w.state.writer) })
+    (record { answer = fine; stores = []; map = w.map; table = w.table; state = with_writer w.state (record_ended w.state.writer) })
     (refuse w NoSearch))

@@ -1,8 +1,8 @@
 -- `chain::lower` meets its contract: the tests that led to each return say which case it is.
 -- Assumes nothing.
+use Rattle.std.specs.Prelude.{Some, None}
 use mathlib.Core.Path.{◌≡◌, sym, ◌∙◌, ap}
 use Rattle.seq.specs.Ids.{none}
-use Rattle.seq.specs.declared.ids.PageOption.TheVariants.{Some, None}
 use Rattle.page.specs.Page.{gives}
 use Rattle.chain.proofs.Steps.{shown, lower_none, lower_outside, lower_falls, lower_high}
 use Rattle.chain.proofs.lower.Goals as goal

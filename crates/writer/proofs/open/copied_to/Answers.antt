@@ -1,8 +1,8 @@
 -- `writer::open::copied_to` meets its contract: a page is found, or none.
 -- Assumes nothing.
+use Rattle.std.specs.Prelude.{None}
 use mathlib.Core.Path.{sym, ap}
 use native.Mathlib.Omega.{arith}
-use Rattle.map.specs.declared.Alloc.TheVariants.{Full}
 use Rattle.state.specs.World.{before, ended}
 use Rattle.state.specs.Values.{with_cursor, with_writer}
 use Rattle.writer.proofs.Pages.{alloc_told, alloc_small, beyond_small}
@@ -38,5 +38,5 @@ pub returns-in-Full : goal.returns-in-Full
 returns-in-Full c =
     let a = c.args in
     let w = before a.image.now a.map.now a.table a.state in
-    let t = alloc_told a.map.now _ a.state.page_count a.state.cursor Full (rw c.in-Full.is at c.allocate-a.ensures) in
+    let t = alloc_told a.map.now _ a.state.page_count a.state.cursor None (rw c.in-Full.is at c.allocate-a.ensures) in
     rw (t.1, c.refuse.ensures) (sym (ap (ended w) (copied_none w a.file a.f a.q t.0)))

@@ -2,9 +2,8 @@
 -- Assumes nothing.
 use mathlib.Core.Path.{sym, ap, ◌∙◌}
 use mathlib.Core.Bool.{false}
-use Rattle.state.specs.declared.types.Done.TheVariants.{Done as Fine}
 use lib.ListN.{length}
-use Rattle.state.specs.Refusals.{numbers}
+use Rattle.state.specs.Refusals.{numbers, fine}
 use Rattle.state.specs.World.{before, ended, in_numbers}
 use Rattle.state.proofs.Laws.{checks_pass}
 use Rattle.writer.specs.Write.{write}
@@ -41,5 +40,5 @@ returns c =
     let a = c.args in
     let w = before a.image.now a.map.now a.table a.state in
     ap (in_numbers numbers)
-    (ap (λ (z : Wrote). record { answer = Fine; world = before z.image z.map a.table z.state }) c.write_in-s.ensures
+    (ap (λ (z : Wrote). record { answer = fine; world = before z.image z.map a.table z.state }) c.write_in-s.ensures
     ∙ sym (ap (ended w) (write_done w _ c.check-checked.ensures c.in-Done.is a.bytes.now c.if-bytes-eq0.false _ c.may_write-may.ensures c.in-Done-may.is)))
