@@ -2,19 +2,22 @@
 -- Assumes nothing.
 use Prim.Native.Nat.{ℕ, zero, suc, ◌+◌, ◌-◌, ◌*◌, ◌/◌, ◌%◌, ◌≤◌, ◌<◌}
 use mathlib.Core.Path.{◌≡◌, refl, sym, ap, ◌∙◌, subst}
-use mathlib.Core.List.{List, [], ◌++◌}
+use mathlib.Core.List.{List, [], ◌∷◌, ◌++◌}
 use mathlib.Core.Bool.{Bool, true, false, ◌&&◌, and-false, and-eq-true_iff}
 use native.Mathlib.Omega.{arith}
-use lib.ListN.{length, take, get_or}
+use native.Mathlib.Nat.{not-suc-le-zero, le_of_suc-le-suc}
+use native.Mathlib.Numerals.{add-one}
+use lib.ListN.{length, take, get_or, replicate}
+use borrow.Rule.Slice.PartMut.{put_mid}
 use lib.Dec.{eqb, leb, ltb, lit<}
 use borrow.Author.Tests.{eq-eqb, ne_eqb, le-leb, lt-ltb, eqb-true, leb-true, ltb-true}
-use Rattle.runs.specs.Runs.{part, le16, le32}
-use Rattle.runs.proofs.Laws.{cond_by, length_part, tab_ext, tab_drop, val16, val32, le16_take, le32_take}
+use Rattle.runs.specs.Runs.{part, le16, le32, by16}
+use Rattle.runs.proofs.Laws.{cond_by, length_part, tab, tab_ext, tab_drop, val16, val32, le16_take, le32_take}
 use Rattle.page.specs.declared.DataHeader.{DataHeader}
 use Rattle.page.specs.declared.BackRead.{BackRead}
 use Rattle.page.specs.declared.MetaHeader.{MetaHeader}
 use Rattle.std.specs.Prelude.{Option, Some, None}
-use Rattle.page.specs.Page.{data_magic, meta_magic, begins, pair_reads, fields, fields_of, page_of, Read, readable, unreadable, gives, gives_back, header_of, meta_of, holds, payload_by, payload_of, header_bytes, meta_bytes, Bytes, Written, Fits}
+use Rattle.page.specs.Page.{data_magic, meta_magic, begins, pair_reads, fields, fields_of, page_of, Read, readable, unreadable, gives, gives_back, header_of, meta_of, holds, payload_by, payload_of, pairs, header_bytes, meta_bytes, Bytes, Written, Fits}
 use Rattle.page.proofs.Laws.{page_there, Front, bytes_at}
 
 -- ---- by the tests
@@ -251,6 +254,27 @@ unfolding meta_of begins
 meta_take pg pg' l t =
     let f = le32_same 12 pg pg' t in
     rw (l, f 0 (lit< tt), f 4 (lit< tt), f 8 (lit< tt))
+
+-- ---- links as bytes
+
+-- one more of them, over two bytes that stood behind those before it
+pairs_more : (l z : List ℕ) (i : ℕ) → i < length l → put_mid (2 * i) 2 (pairs (take i l) ++ (0 ∷ 0 ∷ z)) (by16 (get_or l i 0) []) ≡ pairs (take (suc i) l) ++ z
+pairs_more [] z i h = absurd (not-suc-le-zero h)
+pairs_more (x ∷ l) z zero h = refl
+pairs_more (x ∷ l) z (suc i) h =
+    let e : 2 * suc i ≡ suc (suc (2 * i)) = omega arith in
+    rw e (ap (by16 x) (pairs_more l z i (le_of_suc-le-suc h)))
+
+-- as a loop over nine of them writes it
+pub links_more : (l : List ℕ) (i : ℕ) → length l ≡ 9 → i < 9
+    → put_mid (2 * i) 2 (pairs (take i l) ++ replicate (18 - 2 * i) 0) (by16 (get_or l i 0) []) ≡ pairs (take (i + 1) l) ++ replicate (18 - 2 * (i + 1)) 0
+links_more l i n h =
+    let e : 18 - 2 * i ≡ suc (suc (18 - 2 * (i + 1))) = omega arith in
+    rw (e, add-one) (pairs_more l (replicate (18 - 2 * suc i) 0) i (omega arith))
+
+-- all nine, each by its place
+pub links_nine : (l : List ℕ) → length l ≡ 9 → pairs l ≡ pairs (tab (λ i. get_or l i 0) 0 9)
+links_nine l n = ap pairs (sym (tab_drop l 0 9 (sym n)))
 
 -- ---- a header's bytes read back
 

@@ -67,6 +67,11 @@ payload_by (readable h) pg = part pg 32 h.length
 unfoldable pub payload_of : List ℕ → List ℕ
 payload_of pg = payload_by (header_of pg) pg
 
+-- numbers of two bytes, one behind the other
+abbrev pub pairs : List ℕ → List ℕ
+pairs [] = []
+pairs (x ∷ l) = by16 x (pairs l)
+
 -- a header's bytes, 32
 abbrev pub header_list : DataHeader → List ℕ
 header_list h =

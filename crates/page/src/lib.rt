@@ -4,7 +4,7 @@
 
 ghost use Rattle.std.specs.Prelude.{◌≡◌, ◌+◌};
 ghost use Rattle.runs.specs.Runs.{part_of};
-ghost use Rattle.page.specs.Page.{page_of, begins, pair_reads, fields, fields_of, header_of, gives, gives_back, meta_of, header_list, header_bytes, meta_list, meta_bytes};
+ghost use Rattle.page.specs.Page.{page_of, begins, pair_reads, fields, fields_of, header_of, gives, gives_back, meta_of, pairs, header_bytes, meta_bytes};
 ghost use Rattle.page.specs.Store.{erase, program, stored, ran, data_stores, meta_store};
 
 const DATA_MAGIC: u32 = 0x7fcb_f35d;
@@ -219,81 +219,39 @@ pub fn payload_at(image: &[u8], p: usize, off: usize, n: usize) -> &[u8]
 
 // ---- bytes of headers
 
+fn links_bytes(links: [u16; 9]) -> [u8; 18]
+    ensures { result ≡ pairs links }
+{
+    let mut bytes = [0; 18];
+    for (i, link) in links.iter().enumerate() {
+        bytes[2 * i..2 * i + 2].copy_from_slice(&link.to_le_bytes());
+    }
+    bytes
+}
+
+#[tactic(auto, unfolding(crate::specs::Page::header_bytes))]
 fn header_bytes(h: DataHeader) -> [u8; 32]
     ensures { result ≡ header_bytes h }
 {
-    header_list(h)
+    let mut bytes = [0; 32];
+    bytes[..4].copy_from_slice(&DATA_MAGIC.to_le_bytes());
+    bytes[4..8].copy_from_slice(&h.seq.to_le_bytes());
+    bytes[8..26].copy_from_slice(&links_bytes(h.skiplist));
+    bytes[26..28].copy_from_slice(&h.record_boundary.to_le_bytes());
+    bytes[28..30].copy_from_slice(&h.length.to_le_bytes());
+    bytes[30..].copy_from_slice(&(u16::MAX - h.length).to_le_bytes());
+    bytes
 }
 
-// The array itself stands in a function of its own, whose contract cites an `abbrev`: it needs no proof file.
-fn header_list(h: DataHeader) -> [u8; 32]
-    ensures { result ≡ header_list h }
-{
-    let s = h.seq;
-    let links = h.skiplist;
-    let b = h.record_boundary;
-    let n = h.length;
-    [
-        (DATA_MAGIC % 256) as u8,
-        (DATA_MAGIC / 256 % 256) as u8,
-        (DATA_MAGIC / 65536 % 256) as u8,
-        (DATA_MAGIC / 16777216 % 256) as u8,
-        (s % 256) as u8,
-        (s / 256 % 256) as u8,
-        (s / 65536 % 256) as u8,
-        (s / 16777216 % 256) as u8,
-        (links[0] % 256) as u8,
-        (links[0] / 256 % 256) as u8,
-        (links[1] % 256) as u8,
-        (links[1] / 256 % 256) as u8,
-        (links[2] % 256) as u8,
-        (links[2] / 256 % 256) as u8,
-        (links[3] % 256) as u8,
-        (links[3] / 256 % 256) as u8,
-        (links[4] % 256) as u8,
-        (links[4] / 256 % 256) as u8,
-        (links[5] % 256) as u8,
-        (links[5] / 256 % 256) as u8,
-        (links[6] % 256) as u8,
-        (links[6] / 256 % 256) as u8,
-        (links[7] % 256) as u8,
-        (links[7] / 256 % 256) as u8,
-        (links[8] % 256) as u8,
-        (links[8] / 256 % 256) as u8,
-        (b % 256) as u8,
-        (b / 256 % 256) as u8,
-        (n % 256) as u8,
-        (n / 256 % 256) as u8,
-        ((65535 - n) % 256) as u8,
-        ((65535 - n) / 256 % 256) as u8,
-    ]
-}
-
+#[tactic(auto, unfolding(crate::specs::Page::meta_bytes))]
 fn meta_bytes(m: MetaHeader) -> [u8; 12]
     ensures { result ≡ meta_bytes m }
 {
-    meta_list(m)
-}
-
-fn meta_list(m: MetaHeader) -> [u8; 12]
-    ensures { result ≡ meta_list m }
-{
-    let n = m.page_count;
-    let s = m.seq;
-    [
-        (META_MAGIC % 256) as u8,
-        (META_MAGIC / 256 % 256) as u8,
-        (META_MAGIC / 65536 % 256) as u8,
-        (META_MAGIC / 16777216 % 256) as u8,
-        (n % 256) as u8,
-        (n / 256 % 256) as u8,
-        (n / 65536 % 256) as u8,
-        (n / 16777216 % 256) as u8,
-        (s % 256) as u8,
-        (s / 256 % 256) as u8,
-        (s / 65536 % 256) as u8,
-        (s / 16777216 % 256) as u8,
-    ]
+    let mut bytes = [0; 12];
+    bytes[..4].copy_from_slice(&META_MAGIC.to_le_bytes());
+    bytes[4..8].copy_from_slice(&m.page_count.to_le_bytes());
+    bytes[8..].copy_from_slice(&m.seq.to_le_bytes());
+    bytes
 }
 
 // ---- stores
