@@ -11,7 +11,7 @@ use Rattle.runs.specs.Runs.{part, splice}
 use Rattle.runs.proofs.Laws.{drop_replicate}
 use Rattle.page.specs.declared.DataHeader.{DataHeader}
 use Rattle.page.specs.declared.MetaHeader.{MetaHeader}
-use Rattle.page.specs.declared.MetaRead.TheVariants.{Found, Missing}
+use Rattle.std.specs.Prelude.{Some, None}
 use Rattle.page.specs.Page.{page_of, readable, unreadable, header_of, meta_of, payload_of, header_bytes, meta_bytes, Bytes, Written, Fits}
 use Rattle.page.specs.Store.{Store, erase, program, stored, ran, data_stores, meta_store, Clean, Cleans}
 use Rattle.page.proofs.Laws.{split, page_length, page_none, stored_length, ran_length, same_page, erased_page, Every, On, others, Front, Behind, part_replicate, page_kept, take_kept, front_less, front_erased, front_stored, front_ran, bytes_replicate, OfBytes}
@@ -63,14 +63,14 @@ module _ (img : List ℕ) (p : ℕ) (l : List Store) (b : Every (Behind 4) l) wh
   pub blank_header : header_of (page_of (ran (stored img (erase p)) l) p) ≡ unreadable
   blank_header = bare_by (λ pg. header_of pg ≡ unreadable) none_header bare_header
 
-  pub blank_meta : meta_of (page_of (ran (stored img (erase p)) l) p) ≡ Missing
-  blank_meta = bare_by (λ pg. meta_of pg ≡ Missing) none_meta bare_meta
+  pub blank_meta : meta_of (page_of (ran (stored img (erase p)) l) p) ≡ None
+  blank_meta = bare_by (λ pg. meta_of pg ≡ None) none_meta bare_meta
 
 -- right after the erase
 pub erased_header : (img : List ℕ) (p : ℕ) → header_of (page_of (stored img (erase p)) p) ≡ unreadable
 erased_header img p = blank_header img p [] tt
 
-pub erased_meta : (img : List ℕ) (p : ℕ) → meta_of (page_of (stored img (erase p)) p) ≡ Missing
+pub erased_meta : (img : List ℕ) (p : ℕ) → meta_of (page_of (stored img (erase p)) p) ≡ None
 erased_meta img p = blank_meta img p [] tt
 
 module _ (img : List ℕ) (p : ℕ) (pay : List ℕ) where
@@ -78,7 +78,7 @@ module _ (img : List ℕ) (p : ℕ) (pay : List ℕ) where
   pub payload_header : header_of (page_of (ran img (erase p ∷ program p 32 pay ∷ [])) p) ≡ unreadable
   payload_header = blank_header img p (program p 32 pay ∷ []) (omega arith, tt)
 
-  pub payload_meta : meta_of (page_of (ran img (erase p ∷ program p 32 pay ∷ [])) p) ≡ Missing
+  pub payload_meta : meta_of (page_of (ran img (erase p ∷ program p 32 pay ∷ [])) p) ≡ None
   payload_meta = blank_meta img p (program p 32 pay ∷ []) (omega arith, tt)
 
 -- ---- a stored data page
@@ -108,7 +108,7 @@ module _ (img : List ℕ) (p : ℕ) (pay : List ℕ) (inside : p < length img / 
   data_header h w = rw (data_page h) (header_back h w (pay ++ replicate (224 - length pay) 255) length_rest)
 
   -- and no metadata header does
-  pub data_no_meta : (h : DataHeader) → Written h → meta_of (page_of (ran img (data_stores p h pay)) p) ≡ Missing
+  pub data_no_meta : (h : DataHeader) → Written h → meta_of (page_of (ran img (data_stores p h pay)) p) ≡ None
   data_no_meta h w = header_no_meta (page_of (ran img (data_stores p h pay)) p) h (data_header h w)
 
   -- the payload's bytes read back
@@ -145,7 +145,7 @@ module _ (img : List ℕ) (p : ℕ) (m : MetaHeader) (inside : p < length img / 
   meta_rest = rw meta_page_lem (drop_at (meta_bytes m) (drop 12 (page_of img p)) 12 (length_meta_bytes m))
 
   -- it reads back
-  pub meta_stored : Fits m → meta_of (page_of (stored img (meta_store p m)) p) ≡ Found m
+  pub meta_stored : Fits m → meta_of (page_of (stored img (meta_store p m)) p) ≡ Some m
   meta_stored w =
       let n = page_length img p inside in
       let e : length (drop 12 (page_of img p)) ≡ 244 = simp length-drop (omega arith) in

@@ -2,20 +2,22 @@
 -- Assumes nothing.
 use Prim.Native.Nat.{ℕ, zero, suc, ◌+◌, ◌-◌, ◌*◌, ◌/◌, ◌%◌, ◌≤◌, ◌<◌}
 use mathlib.Core.Path.{◌≡◌, refl, sym, ap, ◌∙◌, subst}
-use mathlib.Core.List.{List, [], ◌++◌}
-use mathlib.Core.Bool.{Bool, true, false, ◌&&◌, and-false, and-eq-true_iff, true≢false, false≢true}
+use mathlib.Core.List.{List, [], ◌∷◌, ◌++◌}
+use mathlib.Core.Bool.{Bool, true, false, ◌&&◌, and-false, and-eq-true_iff}
 use native.Mathlib.Omega.{arith}
-use lib.ListN.{length, take, get_or}
+use native.Mathlib.Nat.{not-suc-le-zero, le_of_suc-le-suc}
+use native.Mathlib.Numerals.{add-one}
+use lib.ListN.{length, take, get_or, replicate}
+use borrow.Rule.Slice.PartMut.{put_mid}
 use lib.Dec.{eqb, leb, ltb, lit<}
 use borrow.Author.Tests.{eq-eqb, ne_eqb, le-leb, lt-ltb, eqb-true, leb-true, ltb-true}
-use Rattle.runs.specs.Runs.{part, le16, le32}
-use Rattle.runs.proofs.Laws.{cond_by, length_part, tab_ext, tab_drop, val16, val32, le16_take, le32_take}
+use Rattle.runs.specs.Runs.{part, le16, le32, by16}
+use Rattle.runs.proofs.Laws.{cond_by, length_part, tab, tab_ext, tab_drop, val16, val32, le16_take, le32_take}
 use Rattle.page.specs.declared.DataHeader.{DataHeader}
-use Rattle.page.specs.declared.HeaderRead.{HeaderRead}
 use Rattle.page.specs.declared.BackRead.{BackRead}
 use Rattle.page.specs.declared.MetaHeader.{MetaHeader}
-use Rattle.page.specs.declared.MetaRead.TheVariants.{Found, Missing}
-use Rattle.page.specs.Page.{data_magic, meta_magic, begins, pair_reads, fields, fields_of, page_of, Read, readable, unreadable, gives, gives_back, header_of, meta_of, holds, payload_by, payload_of, header_bytes, meta_bytes, Bytes, Written, Fits}
+use Rattle.std.specs.Prelude.{Option, Some, None}
+use Rattle.page.specs.Page.{data_magic, meta_magic, begins, pair_reads, fields, fields_of, page_of, Read, readable, unreadable, gives, gives_back, header_of, meta_of, holds, payload_by, payload_of, pairs, header_bytes, meta_bytes, Bytes, Written, Fits}
 use Rattle.page.proofs.Laws.{page_there, Front, bytes_at}
 
 -- ---- by the tests
@@ -54,7 +56,7 @@ module _ (pg : List ℕ) where
 
   -- the same two tests in one, and what a step back asks
   pub back_reads : (a b : Bool) → a ≡ begins pg data_magic → b ≡ pair_reads pg → a && b ≡ true
-      → gives_back (header_of pg) ≡ record { ok = true; seq = le32 pg 4; link = le16 pg 8 }
+      → gives_back (header_of pg) ≡ Some (record { seq = le32 pg 4; link = le16 pg 8 })
   unfolding header_of gives_back fields_of
   back_reads a b p q t = rw (← p, ← q, t)
 
@@ -63,11 +65,11 @@ module _ (pg : List ℕ) where
   back_missing a b p q t = rw (← p, ← q, t)
 
   -- the one test of a metadata header
-  pub meta_reads : begins pg meta_magic ≡ true → meta_of pg ≡ Found (record { page_count = le32 pg 4; seq = le32 pg 8 })
+  pub meta_reads : begins pg meta_magic ≡ true → meta_of pg ≡ Some (record { page_count = le32 pg 4; seq = le32 pg 8 })
   unfolding meta_of
   meta_reads b = rw b
 
-  pub meta_missing : begins pg meta_magic ≡ false → meta_of pg ≡ Missing
+  pub meta_missing : begins pg meta_magic ≡ false → meta_of pg ≡ None
   unfolding meta_of
   meta_missing b = rw b
 
@@ -92,36 +94,36 @@ pub record MetaReads (pg : List ℕ) (m : MetaHeader) : Type 0 where
   pub count : le32 pg 4 ≡ m.page_count
   pub seq : le32 pg 8 ≡ m.seq
 
-pub meta_read : (pg : List ℕ) (m : MetaHeader) → meta_of pg ≡ Found m → MetaReads pg m
+pub meta_read : (pg : List ℕ) (m : MetaHeader) → meta_of pg ≡ Some m → MetaReads pg m
 unfolding meta_of
 meta_read pg m e =
-    cond_by (begins pg meta_magic) (Found (record { page_count = le32 pg 4; seq = le32 pg 8 })) Missing (Found m) e
+    cond_by (begins pg meta_magic) (Some (record { page_count = le32 pg 4; seq = le32 pg 8 })) None (Some m) e
     (λ t q. let r : ◌≡◌ {A = MetaHeader} (record { page_count = le32 pg 4; seq = le32 pg 8 }) m = cc in
     record { begin = t; count = ap (λ (x : MetaHeader). x.page_count) r; seq = ap (λ (x : MetaHeader). x.seq) r })
     (λ t q. let z : ◌≡◌ {A = ℕ} 0 1 = cc in absurd (omega arith))
 
--- what the code's answer tells: by its test
-pub given_read : (r : HeaderRead) (x : Read) → r ≡ gives x → r.ok ≡ true → x ≡ readable r.header
+-- what the code's answer tells
+pub given_read : (r : Option DataHeader) (x : Read) (h : DataHeader) → r ≡ gives x → r ≡ Some h → x ≡ readable h
 unfolding gives
-given_read r unreadable e t = absurd (false≢true (sym (ap (λ (y : HeaderRead). y.ok) e) ∙ t))
-given_read r (readable h) e t = ap (λ (y : HeaderRead). readable y.header) (sym e)
+given_read r unreadable h e t = cc
+given_read r (readable k) h e t = cc
 
-pub given_none : (r : HeaderRead) (x : Read) → r ≡ gives x → r.ok ≡ false → x ≡ unreadable
+pub given_none : (r : Option DataHeader) (x : Read) → r ≡ gives x → r ≡ None → x ≡ unreadable
 unfolding gives
 given_none r unreadable e t = refl
-given_none r (readable h) e t = absurd (true≢false (sym (ap (λ (y : HeaderRead). y.ok) e) ∙ t))
+given_none r (readable k) e t = cc
 
 -- and what a step back asks of it
-pub back_read : (r : BackRead) (x : Read) → r ≡ gives_back x → r.ok ≡ true
-    → (h : DataHeader) × (x ≡ readable h) × (r ≡ record { ok = true; seq = h.seq; link = get_or h.skiplist 0 0 })
+pub back_read : (r : Option BackRead) (x : Read) (b : BackRead) → r ≡ gives_back x → r ≡ Some b
+    → (h : DataHeader) × (x ≡ readable h) × (b ≡ record { seq = h.seq; link = get_or h.skiplist 0 0 })
 unfolding gives_back
-back_read r unreadable e t = absurd (false≢true (sym (ap (λ (y : BackRead). y.ok) e) ∙ t))
-back_read r (readable h) e t = (h, refl, e)
+back_read r unreadable b e t = cc
+back_read r (readable h) b e t = (h, refl, cc)
 
-pub back_none : (r : BackRead) (x : Read) → r ≡ gives_back x → r.ok ≡ false → x ≡ unreadable
+pub back_none : (r : Option BackRead) (x : Read) → r ≡ gives_back x → r ≡ None → x ≡ unreadable
 unfolding gives_back
 back_none r unreadable e t = refl
-back_none r (readable h) e t = absurd (true≢false (sym (ap (λ (y : BackRead). y.ok) e) ∙ t))
+back_none r (readable h) e t = cc
 
 -- the pair's two bounds, whatever the page
 pub pair_bounds : (pg : List ℕ) → pair_reads pg ≡ true → (1 ≤ le16 pg 28) × (le16 pg 28 ≤ 224)
@@ -145,7 +147,7 @@ header_there img p h e =
     let l = begins_length (page_of img p) data_magic (header_read (page_of img p) h e).begin in
     page_there img p (omega arith)
 
-pub meta_there : (img : List ℕ) (p : ℕ) (m : MetaHeader) → meta_of (page_of img p) ≡ Found m → p < length img / 256
+pub meta_there : (img : List ℕ) (p : ℕ) (m : MetaHeader) → meta_of (page_of img p) ≡ Some m → p < length img / 256
 meta_there img p m e =
     let l = begins_length (page_of img p) meta_magic (meta_read (page_of img p) m e).begin in
     page_there img p (omega arith)
@@ -177,7 +179,7 @@ module _ (l : List ℕ) (b : Bytes l) where
       (record { seq = le32_fits 4; nine = refl; links = fields_fit 8 9; boundary = le16_fits 26; low = q.0; high = q.1 })
 
   -- and so can a metadata header
-  pub meta_fits : (m : MetaHeader) → meta_of l ≡ Found m → Fits m
+  pub meta_fits : (m : MetaHeader) → meta_of l ≡ Some m → Fits m
   meta_fits m e =
       let r = meta_read l m e in
       record { count = rw r.count at (le32_fits 4); seq = rw r.seq at (le32_fits 8) }
@@ -189,11 +191,11 @@ pub begins_other : (pg : List ℕ) (m n : ℕ) → begins pg m ≡ true → (m �
 begins_other pg m n h d = begins_not pg n (λ e. d (sym (begins_magic pg m h) ∙ e))
 
 -- a page with a metadata header has no data header
-pub meta_no_header : (pg : List ℕ) (m : MetaHeader) → meta_of pg ≡ Found m → header_of pg ≡ unreadable
+pub meta_no_header : (pg : List ℕ) (m : MetaHeader) → meta_of pg ≡ Some m → header_of pg ≡ unreadable
 meta_no_header pg m e = header_begins pg (begins_other pg meta_magic data_magic (meta_read pg m e).begin (λ z. omega arith))
 
 -- and the other way round
-pub header_no_meta : (pg : List ℕ) (h : DataHeader) → header_of pg ≡ readable h → meta_of pg ≡ Missing
+pub header_no_meta : (pg : List ℕ) (h : DataHeader) → header_of pg ≡ readable h → meta_of pg ≡ None
 header_no_meta pg h e = meta_missing pg (begins_other pg data_magic meta_magic (header_read pg h e).begin (λ z. omega arith))
 
 -- ---- an erased front, and no page, read as neither
@@ -208,7 +210,7 @@ bare_begins pg m d f =
 pub bare_header : (pg : List ℕ) → Front 4 pg → header_of pg ≡ unreadable
 bare_header pg f = header_begins pg (bare_begins pg data_magic (λ z. omega arith) f)
 
-pub bare_meta : (pg : List ℕ) → Front 4 pg → meta_of pg ≡ Missing
+pub bare_meta : (pg : List ℕ) → Front 4 pg → meta_of pg ≡ None
 bare_meta pg f = meta_missing pg (bare_begins pg meta_magic (λ z. omega arith) f)
 
 none_begins : (m : ℕ) → begins [] m ≡ false
@@ -219,7 +221,7 @@ none_begins m = refl
 pub none_header : header_of [] ≡ unreadable
 none_header = header_begins [] (none_begins data_magic)
 
-pub none_meta : meta_of [] ≡ Missing
+pub none_meta : meta_of [] ≡ None
 none_meta = meta_missing [] (none_begins meta_magic)
 
 -- ---- a header is in a page's first bytes
@@ -252,6 +254,27 @@ unfolding meta_of begins
 meta_take pg pg' l t =
     let f = le32_same 12 pg pg' t in
     rw (l, f 0 (lit< tt), f 4 (lit< tt), f 8 (lit< tt))
+
+-- ---- links as bytes
+
+-- one more of them, over two bytes that stood behind those before it
+pairs_more : (l z : List ℕ) (i : ℕ) → i < length l → put_mid (2 * i) 2 (pairs (take i l) ++ (0 ∷ 0 ∷ z)) (by16 (get_or l i 0) []) ≡ pairs (take (suc i) l) ++ z
+pairs_more [] z i h = absurd (not-suc-le-zero h)
+pairs_more (x ∷ l) z zero h = refl
+pairs_more (x ∷ l) z (suc i) h =
+    let e : 2 * suc i ≡ suc (suc (2 * i)) = omega arith in
+    rw e (ap (by16 x) (pairs_more l z i (le_of_suc-le-suc h)))
+
+-- as a loop over nine of them writes it
+pub links_more : (l : List ℕ) (i : ℕ) → length l ≡ 9 → i < 9
+    → put_mid (2 * i) 2 (pairs (take i l) ++ replicate (18 - 2 * i) 0) (by16 (get_or l i 0) []) ≡ pairs (take (i + 1) l) ++ replicate (18 - 2 * (i + 1)) 0
+links_more l i n h =
+    let e : 18 - 2 * i ≡ suc (suc (18 - 2 * (i + 1))) = omega arith in
+    rw (e, add-one) (pairs_more l (replicate (18 - 2 * suc i) 0) i (omega arith))
+
+-- all nine, each by its place
+pub links_nine : (l : List ℕ) → length l ≡ 9 → pairs l ≡ pairs (tab (λ i. get_or l i 0) 0 9)
+links_nine l n = ap pairs (sym (tab_drop l 0 9 (sym n)))
 
 -- ---- a header's bytes read back
 
@@ -287,7 +310,7 @@ module _ (h : DataHeader) (w : Written h) (rest : List ℕ) (e : length rest ≡
   header_back = header_reads (header_bytes h ++ rest) (begins_by (header_bytes h ++ rest) data_magic length_header refl) pair_back ∙ ap readable fields_back
 
 -- a metadata header is read from its bytes
-pub meta_back : (m : MetaHeader) → Fits m → (rest : List ℕ) → length rest ≡ 244 → meta_of (meta_bytes m ++ rest) ≡ Found m
+pub meta_back : (m : MetaHeader) → Fits m → (rest : List ℕ) → length rest ≡ 244 → meta_of (meta_bytes m ++ rest) ≡ Some m
 unfolding meta_bytes le16 le32
 meta_back m w rest e =
     let l : length (meta_bytes m ++ rest) ≡ 256 = omega arith in

@@ -1,13 +1,10 @@
 -- The pages of an image and what stands on them, by document 01, "Numbers" and "Layout".
 -- Assumes nothing.
-use Rattle.std.specs.Prelude.{ℕ, zero, suc, ◌+◌, ◌-◌, ◌*◌, ◌/◌, ◌≤◌, ◌<◌, ◌≡◌, List, [], ◌∷◌, Bool, true, false, cond, ◌&&◌, length, get_or, replicate, leb, ltb, eqb}
+use Rattle.std.specs.Prelude.{ℕ, zero, suc, ◌+◌, ◌-◌, ◌*◌, ◌/◌, ◌≤◌, ◌<◌, ◌≡◌, List, [], ◌∷◌, Bool, Option, Some, None, cond, ◌&&◌, length, get_or, leb, ltb, eqb}
 use Rattle.runs.specs.Runs.{part, le16, le32, by16, by32}
 use Rattle.page.specs.declared.DataHeader.{DataHeader}
-use Rattle.page.specs.declared.HeaderRead.{HeaderRead}
 use Rattle.page.specs.declared.BackRead.{BackRead}
 use Rattle.page.specs.declared.MetaHeader.{MetaHeader}
-use Rattle.page.specs.declared.MetaRead.{MetaRead}
-use Rattle.page.specs.declared.MetaRead.TheVariants.{Found, Missing}
 
 -- page p of an image: its 256 bytes, or none where the image has no such page
 unfoldable pub page_of : List ℕ → ℕ → List ℕ
@@ -48,18 +45,15 @@ pub data Read : Type 0 where
 unfoldable pub header_of : List ℕ → Read
 header_of pg = cond (begins pg data_magic && pair_reads pg) (readable (fields_of pg)) unreadable
 
--- the same as the code's struct, whose header is all 0 where nothing reads
-abbrev pub no_header : DataHeader
-no_header = record { seq = 0; skiplist = replicate 9 0; record_boundary = 0; length = 0 }
+-- the same as the code's answer
+unfoldable pub gives : Read → Option DataHeader
+gives unreadable = None
+gives (readable h) = Some h
 
-unfoldable pub gives : Read → HeaderRead
-gives unreadable = record { ok = false; header = no_header }
-gives (readable h) = record { ok = true; header = h }
-
--- and of it what a step back asks, all 0 where nothing reads
-unfoldable pub gives_back : Read → BackRead
-gives_back unreadable = record { ok = false; seq = 0; link = 0 }
-gives_back (readable h) = record { ok = true; seq = h.seq; link = get_or h.skiplist 0 0 }
+-- and of it what a step back asks
+unfoldable pub gives_back : Read → Option BackRead
+gives_back unreadable = None
+gives_back (readable h) = Some (record { seq = h.seq; link = get_or h.skiplist 0 0 })
 
 -- whether a page with this header holds the number n: seq ≤ n < seq + length
 unfoldable pub holds : DataHeader → ℕ → Bool
@@ -72,6 +66,11 @@ payload_by (readable h) pg = part pg 32 h.length
 
 unfoldable pub payload_of : List ℕ → List ℕ
 payload_of pg = payload_by (header_of pg) pg
+
+-- numbers of two bytes, one behind the other
+abbrev pub pairs : List ℕ → List ℕ
+pairs [] = []
+pairs (x ∷ l) = by16 x (pairs l)
 
 -- a header's bytes, 32
 abbrev pub header_list : DataHeader → List ℕ
@@ -88,8 +87,8 @@ header_bytes h = header_list h
 -- ---- a metadata page's header
 
 -- of a page's bytes: the magic matches
-unfoldable pub meta_of : List ℕ → MetaRead
-meta_of pg = cond (begins pg meta_magic) (Found (record { page_count = le32 pg 4; seq = le32 pg 8 })) Missing
+unfoldable pub meta_of : List ℕ → Option MetaHeader
+meta_of pg = cond (begins pg meta_magic) (Some (record { page_count = le32 pg 4; seq = le32 pg 8 })) None
 
 -- its bytes, 12
 abbrev pub meta_list : MetaHeader → List ℕ

@@ -4,7 +4,7 @@
 
 ghost use Rattle.std.specs.Prelude.{◌≡◌, ◌+◌};
 ghost use Rattle.runs.specs.Runs.{part_of};
-ghost use Rattle.page.specs.Page.{page_of, begins, pair_reads, fields, fields_of, header_of, unreadable, gives, gives_back, meta_of, header_list, header_bytes, meta_list, meta_bytes};
+ghost use Rattle.page.specs.Page.{page_of, begins, pair_reads, fields, fields_of, header_of, gives, gives_back, meta_of, pairs, header_bytes, meta_bytes};
 ghost use Rattle.page.specs.Store.{erase, program, stored, ran, data_stores, meta_store};
 
 const DATA_MAGIC: u32 = 0x7fcb_f35d;
@@ -12,7 +12,7 @@ const DATA_MAGIC: u32 = 0x7fcb_f35d;
 const META_MAGIC: u32 = 0x1d81_bcde;
 
 #[repr(C)]
-#[derive(Clone, Copy)]
+#[derive(Clone, Copy, Debug, PartialEq, Eq)]
 pub struct DataHeader {
     pub seq: u32,
     pub skiplist: [u16; 9],
@@ -20,31 +20,17 @@ pub struct DataHeader {
     pub length: u16,
 }
 
-// Where a header does not read, it is all 0.
-#[derive(Clone, Copy)]
-pub struct HeaderRead {
-    pub ok: bool,
-    pub header: DataHeader,
-}
-
-// What a step back asks of a header: its first number and its link 0. All 0 where it does not read.
-#[derive(Clone, Copy)]
+// What a step back asks of a header: its first number and its link 0.
+#[derive(Clone, Copy, Debug, PartialEq, Eq)]
 pub struct BackRead {
-    pub ok: bool,
     pub seq: u32,
     pub link: u16,
 }
 
-#[derive(Clone, Copy)]
+#[derive(Clone, Copy, Debug, PartialEq, Eq)]
 pub struct MetaHeader {
     pub page_count: u32,
     pub seq: u32,
-}
-
-#[derive(Clone, Copy)]
-pub enum MetaRead {
-    Found(MetaHeader),
-    Missing,
 }
 
 // A page of the caller's image, which it refers to and does not copy.
@@ -117,119 +103,99 @@ fn fields_of(pg: &[u8]) -> DataHeader
     }
 }
 
-// What reading gives where no header reads.
-pub fn unread() -> HeaderRead
-    ensures { result ≡ gives unreadable }
-{
-    let header = DataHeader {
-        seq: 0,
-        skiplist: [0; 9],
-        record_boundary: 0,
-        length: 0,
-    };
-    HeaderRead { ok: false, header }
-}
-
 // The header of a data page's bytes.
-fn header_of(pg: &[u8]) -> HeaderRead
+#[tactic(auto, unfolding(crate::specs::Page::header_of, crate::specs::Page::gives))]
+fn header_of(pg: &[u8]) -> Option<DataHeader>
     ensures { result ≡ gives (header_of pg.now) }
 {
-    if begins(pg, DATA_MAGIC) {
-        if pair_reads(pg) {
-            let header = fields_of(pg);
-            return HeaderRead { ok: true, header };
-        }
-        return unread();
-    }
-    unread()
-}
-
-pub fn unread_back() -> BackRead
-    ensures { result ≡ gives_back unreadable }
-{
-    BackRead {
-        ok: false,
-        seq: 0,
-        link: 0,
+    if begins(pg, DATA_MAGIC) && pair_reads(pg) {
+        Some(fields_of(pg))
+    } else {
+        None
     }
 }
 
 // Of the same header, what a step back asks: a walk of many pages copies no headers.
-fn back_of(pg: &[u8]) -> BackRead
+#[tactic(auto, unfolding(crate::specs::Page::header_of, crate::specs::Page::gives_back, crate::specs::Page::fields_of))]
+fn back_of(pg: &[u8]) -> Option<BackRead>
     ensures { result ≡ gives_back (header_of pg.now) }
 {
-    if begins(pg, DATA_MAGIC) & pair_reads(pg) {
-        return BackRead {
-            ok: true,
+    if begins(pg, DATA_MAGIC) && pair_reads(pg) {
+        Some(BackRead {
             seq: runs::u32_at(pg, 4),
             link: runs::u16_at(pg, 8),
-        };
+        })
+    } else {
+        None
     }
-    unread_back()
 }
 
 // The header of a metadata page's bytes.
-fn meta_of(pg: &[u8]) -> MetaRead
+#[tactic(auto, unfolding(crate::specs::Page::meta_of))]
+fn meta_of(pg: &[u8]) -> Option<MetaHeader>
     ensures { result ≡ meta_of pg.now }
 {
     if begins(pg, META_MAGIC) {
-        return MetaRead::Found(MetaHeader {
+        Some(MetaHeader {
             page_count: runs::u32_at(pg, 4),
             seq: runs::u32_at(pg, 8),
-        });
+        })
+    } else {
+        None
     }
-    MetaRead::Missing
 }
 
 // ---- the page view, and its thin readers
 
-fn read_header(image: &[u8], page: usize) -> HeaderRead
-    ensures { result ≡ gives (header_of (page_of image.now page)) }
-{
-    header_of(page_of(image, page))
-}
+impl<'a> PageView<'a> {
+    pub fn new(image: &'a [u8], page: usize) -> PageView<'a>
+        ensures { (result.image ≡ image.entry) × (result.page ≡ page) }
+    {
+        PageView { image, page }
+    }
 
-fn read_meta(image: &[u8], page: usize) -> MetaRead
-    ensures { result ≡ meta_of (page_of image.now page) }
-{
-    meta_of(page_of(image, page))
-}
+    pub fn bytes(self) -> &'a [u8]
+        ensures { result.now ≡ page_of self.entry.image.now self.entry.page }
+    {
+        page_of(self.image, self.page)
+    }
 
-pub fn view<'a>(image: &'a [u8], page: usize) -> PageView<'a>
-    ensures { (result.image ≡ image.entry) × (result.page ≡ page) }
-{
-    PageView { image, page }
-}
+    pub fn header(self) -> Option<DataHeader>
+        ensures { result ≡ gives (header_of (page_of self.entry.image.now self.entry.page)) }
+    {
+        header_of(self.bytes())
+    }
 
-pub fn view_header<'a>(v: PageView<'a>) -> HeaderRead
-    ensures { result ≡ gives (header_of (page_of v.entry.image.now v.entry.page)) }
-{
-    read_header(v.image, v.page)
-}
+    pub fn meta(self) -> Option<MetaHeader>
+        ensures { result ≡ meta_of (page_of self.entry.image.now self.entry.page) }
+    {
+        meta_of(self.bytes())
+    }
 
-pub fn view_meta<'a>(v: PageView<'a>) -> MetaRead
-    ensures { result ≡ meta_of (page_of v.entry.image.now v.entry.page) }
-{
-    read_meta(v.image, v.page)
+    pub fn back(self) -> Option<BackRead>
+        ensures { result ≡ gives_back (header_of (page_of self.entry.image.now self.entry.page)) }
+    {
+        back_of(self.bytes())
+    }
 }
 
 // With plain parameters: whoever calls it sees no view.
-pub fn header_at(image: &[u8], p: usize) -> HeaderRead
+pub fn header_at(image: &[u8], p: usize) -> Option<DataHeader>
     ensures { result ≡ gives (header_of (page_of image.now p)) }
 {
-    view_header(view(image, p))
+    PageView::new(image, p).header()
 }
 
-pub fn meta_at(image: &[u8], p: usize) -> MetaRead
+pub fn meta_at(image: &[u8], p: usize) -> Option<MetaHeader>
     ensures { result ≡ meta_of (page_of image.now p) }
 {
-    view_meta(view(image, p))
+    PageView::new(image, p).meta()
 }
 
-pub fn back_at(image: &[u8], p: usize) -> BackRead
+pub fn back_at(image: &[u8], p: usize) -> Option<BackRead>
     ensures { result ≡ gives_back (header_of (page_of image.now p)) }
 {
-    back_of(page_of(image, p))
+    PageView::new(image, p).back()
 }
 
 // ---- parts of a page, which are parts of the image
@@ -253,81 +219,39 @@ pub fn payload_at(image: &[u8], p: usize, off: usize, n: usize) -> &[u8]
 
 // ---- bytes of headers
 
+fn links_bytes(links: [u16; 9]) -> [u8; 18]
+    ensures { result ≡ pairs links }
+{
+    let mut bytes = [0; 18];
+    for (i, link) in links.iter().enumerate() {
+        bytes[2 * i..2 * i + 2].copy_from_slice(&link.to_le_bytes());
+    }
+    bytes
+}
+
+#[tactic(auto, unfolding(crate::specs::Page::header_bytes))]
 fn header_bytes(h: DataHeader) -> [u8; 32]
     ensures { result ≡ header_bytes h }
 {
-    header_list(h)
+    let mut bytes = [0; 32];
+    bytes[..4].copy_from_slice(&DATA_MAGIC.to_le_bytes());
+    bytes[4..8].copy_from_slice(&h.seq.to_le_bytes());
+    bytes[8..26].copy_from_slice(&links_bytes(h.skiplist));
+    bytes[26..28].copy_from_slice(&h.record_boundary.to_le_bytes());
+    bytes[28..30].copy_from_slice(&h.length.to_le_bytes());
+    bytes[30..].copy_from_slice(&(u16::MAX - h.length).to_le_bytes());
+    bytes
 }
 
-// The array itself stands in a function of its own, whose contract cites an `abbrev`: it needs no proof file.
-fn header_list(h: DataHeader) -> [u8; 32]
-    ensures { result ≡ header_list h }
-{
-    let s = h.seq;
-    let links = h.skiplist;
-    let b = h.record_boundary;
-    let n = h.length;
-    [
-        (DATA_MAGIC % 256) as u8,
-        (DATA_MAGIC / 256 % 256) as u8,
-        (DATA_MAGIC / 65536 % 256) as u8,
-        (DATA_MAGIC / 16777216 % 256) as u8,
-        (s % 256) as u8,
-        (s / 256 % 256) as u8,
-        (s / 65536 % 256) as u8,
-        (s / 16777216 % 256) as u8,
-        (links[0] % 256) as u8,
-        (links[0] / 256 % 256) as u8,
-        (links[1] % 256) as u8,
-        (links[1] / 256 % 256) as u8,
-        (links[2] % 256) as u8,
-        (links[2] / 256 % 256) as u8,
-        (links[3] % 256) as u8,
-        (links[3] / 256 % 256) as u8,
-        (links[4] % 256) as u8,
-        (links[4] / 256 % 256) as u8,
-        (links[5] % 256) as u8,
-        (links[5] / 256 % 256) as u8,
-        (links[6] % 256) as u8,
-        (links[6] / 256 % 256) as u8,
-        (links[7] % 256) as u8,
-        (links[7] / 256 % 256) as u8,
-        (links[8] % 256) as u8,
-        (links[8] / 256 % 256) as u8,
-        (b % 256) as u8,
-        (b / 256 % 256) as u8,
-        (n % 256) as u8,
-        (n / 256 % 256) as u8,
-        ((65535 - n) % 256) as u8,
-        ((65535 - n) / 256 % 256) as u8,
-    ]
-}
-
+#[tactic(auto, unfolding(crate::specs::Page::meta_bytes))]
 fn meta_bytes(m: MetaHeader) -> [u8; 12]
     ensures { result ≡ meta_bytes m }
 {
-    meta_list(m)
-}
-
-fn meta_list(m: MetaHeader) -> [u8; 12]
-    ensures { result ≡ meta_list m }
-{
-    let n = m.page_count;
-    let s = m.seq;
-    [
-        (META_MAGIC % 256) as u8,
-        (META_MAGIC / 256 % 256) as u8,
-        (META_MAGIC / 65536 % 256) as u8,
-        (META_MAGIC / 16777216 % 256) as u8,
-        (n % 256) as u8,
-        (n / 256 % 256) as u8,
-        (n / 65536 % 256) as u8,
-        (n / 16777216 % 256) as u8,
-        (s % 256) as u8,
-        (s / 256 % 256) as u8,
-        (s / 65536 % 256) as u8,
-        (s / 16777216 % 256) as u8,
-    ]
+    let mut bytes = [0; 12];
+    bytes[..4].copy_from_slice(&META_MAGIC.to_le_bytes());
+    bytes[4..8].copy_from_slice(&m.page_count.to_le_bytes());
+    bytes[8..].copy_from_slice(&m.seq.to_le_bytes());
+    bytes
 }
 
 // ---- stores
