@@ -7,10 +7,11 @@ use Prim.Native.Nat.{ℕ, ◌≤◌}
 use native.Mathlib.Omega.{arith}
 use lib.ListN.{length, drop}
 use lib.Seq.{drop-append_seam}
+use Rattle.std.proofs.lemmas.Option.{same_Some}
 use Rattle.page.specs.Page.{Read}
 use Rattle.chain.specs.declared.PagePointer.{PagePointer}
 use Rattle.chain.specs.declared.Place.{Place}
-use Rattle.chain.specs.declared.Reached.{Reached}
+use Rattle.std.specs.Prelude.{Some, None}
 use Rattle.chain.specs.Links.{oldest, ids}
 use Rattle.chain.specs.Steps.{back_rule, Sought, damaged, at, Trace, through, walk}
 use Rattle.chain.specs.Seek.{found_by, found}
@@ -119,20 +120,18 @@ module _ (count : ℕ) (read : ℕ → Read) (t : ℕ) (p : PagePointer) (q : Pl
   back_path = rw e (ap (λ (y : Trace). y.path) (walk_wide count read t p))
 
   -- where the code says that it ends
-  module _ (x : Reached) (r : x ≡ reached_by q (walk_back count read t q).ends) where
-    ends_is : x ≡ reached_by (place_of p) (thinned (walk count read t p).ends)
-    ends_is = r ∙ rw e (ap (λ (y : Trace). reached_by (place_of p) y.ends) (walk_wide count read t p))
+  pub reached_place : (x : Place) → Some x ≡ reached_by (walk_back count read t q).ends
+      → ((found p (walk count read t p)).ok ≡ true) × (x ≡ place_of (found p (walk count read t p)).page)
+  reached_place x r = by (walk count read t p).ends (r ∙ rw e (ap (λ (y : Trace). reached_by y.ends) (walk_wide count read t p)))
+    where
+      by : (s : Sought) → Some x ≡ reached_by (thinned s)
+          → let f = found_by p (length (walk count read t p).path) s in (f.ok ≡ true) × (x ≡ place_of f.page)
+      by damaged r = cc
+      by (at y) r = (refl, same_Some _ _ r)
 
-    pub reached_ok : x.ok ≡ (found p (walk count read t p)).ok
-    reached_ok = ap (λ (y : Reached). y.ok) ends_is ∙ by (walk count read t p).ends
-      where
-        by : (s : Sought) → (reached_by (place_of p) (thinned s)).ok ≡ (found_by p (length (walk count read t p).path) s).ok
-        by damaged = refl
-        by (at y) = refl
-
-    pub reached_place : x.place ≡ place_of (found p (walk count read t p)).page
-    reached_place = ap (λ (y : Reached). y.place) ends_is ∙ by (walk count read t p).ends
-      where
-        by : (s : Sought) → (reached_by (place_of p) (thinned s)).place ≡ place_of (found_by p (length (walk count read t p).path) s).page
-        by damaged = refl
-        by (at y) = refl
+  pub reached_none : None ≡ reached_by (walk_back count read t q).ends → (found p (walk count read t p)).ok ≡ false
+  reached_none r = by (walk count read t p).ends (r ∙ rw e (ap (λ (y : Trace). reached_by y.ends) (walk_wide count read t p)))
+    where
+      by : (s : Sought) → None ≡ reached_by (thinned s) → (found_by p (length (walk count read t p).path) s).ok ≡ false
+      by damaged r = refl
+      by (at y) r = cc

@@ -1,14 +1,15 @@
 -- The links of a new page: what the array comes to, and that it obeys the rule of a chain. Assumes nothing.
 use mathlib.Core.Path.{◌≡◌, refl, ◌∙◌, ap}
 use mathlib.Core.Bool.{cond}
-use mathlib.Core.List.{List, [], ◌∷◌}
-use Prim.Native.Nat.{ℕ, zero, suc, ◌+◌, ◌≤◌, ◌<◌}
-use native.Mathlib.Nat.{le_of_suc-le-suc, not-suc-le-zero, suc-add}
+use mathlib.Core.List.{List, [], ◌∷◌, ◌++◌}
+use Prim.Native.Nat.{ℕ, zero, suc, ◌+◌, ◌≤◌, ◌<◌, min}
+use native.Mathlib.Nat.{le_of_suc-le-suc, lt_of_not-le, not-suc-le-zero}
 use native.Mathlib.Numerals.{add-one}
+use native.Mathlib.Decide.{dec_le}
 use native.Mathlib.Omega.{arith}
 use borrow.Author.Tests.{le-ltb, lt-ltb}
 use lib.Dec.{ltb, leb-suc-suc}
-use lib.ListN.{get_or, length, set}
+use lib.ListN.{get_or, length, take, drop, replicate}
 use Rattle.seq.specs.Ids.{none}
 use Rattle.seq.specs.Seq.{level, index}
 use Rattle.seq.proofs.Laws.{level_below}
@@ -22,13 +23,13 @@ filled_length zero x l = refl
 filled_length (suc k) x [] = refl
 filled_length (suc k) x (y ∷ l) = ap suc (filled_length k x l)
 
--- one entry more
-pub filled_next : (k x : ℕ) (l : List ℕ) → set (filled k x l) k x ≡ filled (k + 1) x l
+-- the part that is filled, and the rest as it was
+pub filled_split : (k x : ℕ) (l : List ℕ) → replicate (length (take k l)) x ++ drop k l ≡ filled k x l
 unfolding filled
-filled_next zero x [] = refl
-filled_next zero x (y ∷ l) = refl
-filled_next (suc k) x [] = rw suc-add
-filled_next (suc k) x (y ∷ l) = rw suc-add (ap (λ (m : List ℕ). x ∷ m) (filled_next k x l))
+filled_split zero x [] = refl
+filled_split zero x (y ∷ l) = refl
+filled_split (suc k) x [] = refl
+filled_split (suc k) x (y ∷ l) = ap (λ (m : List ℕ). x ∷ m) (filled_split k x l)
 
 -- past the end there is nothing to fill
 pub filled_past : (j k x : ℕ) (l : List ℕ) → length l ≤ j → length l ≤ k → filled j x l ≡ filled k x l
@@ -40,6 +41,14 @@ filled_past (suc j) (suc k) x [] h g = refl
 filled_past zero (suc k) x (y ∷ l) h g = absurd (not-suc-le-zero h)
 filled_past (suc j) zero x (y ∷ l) h g = absurd (not-suc-le-zero g)
 filled_past (suc j) (suc k) x (y ∷ l) h g = ap (λ (m : List ℕ). x ∷ m) (filled_past j k x l (le_of_suc-le-suc h) (le_of_suc-le-suc g))
+
+-- of nine entries no more than nine are filled
+pub filled_capped : (t x : ℕ) (l : List ℕ) → length l ≡ 9 → filled (min t 8 + 1) x l ≡ filled (t + 1) x l
+filled_capped t x l e = by (dec_le t 8)
+  where
+    by : Dec (t ≤ 8) → filled (min t 8 + 1) x l ≡ filled (t + 1) x l
+    by (yes h) = let m : min t 8 ≡ t = omega arith in ap (λ (k : ℕ). filled (k + 1) x l) m
+    by (no h) = let m : 8 < t = lt_of_not-le h in filled_past (min t 8 + 1) (t + 1) x l (omega arith) (omega arith)
 
 filled_at : (k x : ℕ) (l : List ℕ) (i : ℕ) → i < length l → get_or (filled k x l) i 0 ≡ cond (ltb i k) x (get_or l i 0)
 unfolding filled

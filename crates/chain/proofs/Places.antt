@@ -9,11 +9,12 @@ use Rattle.seq.specs.Ids.{none}
 use Rattle.page.specs.Page.{Read, unreadable, readable, gives_back}
 use Rattle.page.proofs.Headers.{back_read, back_none}
 use Rattle.page.specs.declared.BackRead.{BackRead}
+use Rattle.std.proofs.lemmas.Option.{same_Some}
 use Rattle.chain.specs.declared.PagePointer.{PagePointer}
 use Rattle.chain.specs.declared.Place.{Place}
-use Rattle.chain.specs.declared.Kind.{Kind}
-use Rattle.chain.specs.declared.Kind.TheVariants.{Stays, Reaches, Breaks}
-use Rattle.chain.specs.declared.BackStep.{BackStep}
+use Rattle.std.specs.Prelude.{Some, None}
+use Rattle.chain.specs.declared.Step.{Step}
+use Rattle.chain.specs.declared.Step.TheVariants.{Stays, Reaches, Breaks}
 use Rattle.chain.specs.Links.{start}
 use Rattle.chain.specs.Steps.{Way, halt, lost, via, falls, back_rule, Stepped, stays, reaches, breaks, entered, stepped, lower_of, lower, step, at, damaged, Trace, stop, through, follow, along, go, trace, walk}
 use Rattle.chain.specs.Back.{place_of, wide, told_back, thinned, thin, walk_back}
@@ -44,34 +45,43 @@ module _ (count : ℕ) (read : ℕ → Read) (s j : ℕ) where
   lower_barred (inl e) = lower_none count read s j e
   lower_barred (inr h) = lower_outside count read s j h
 
-  -- where the page is there, and x what a step back asks of its header
-  module _ (n : (j ≡ none → ⊥) × (j < count)) (x : BackRead) (e : x ≡ gives_back (read j)) where
-    pub lower_back_falls : x.seq < s → x ≡ gives_back (lower count read s j)
+  -- where the page is there, and what a step back asks of its header
+  module _ (n : (j ≡ none → ⊥) × (j < count)) where
+    pub lower_back_none : None ≡ gives_back (read j) → None ≡ gives_back (lower count read s j)
     unfolding lower gives_back
-    lower_back_falls l = rw (is_page_lem count j n.0 n.1) (by (read j) e)
+    lower_back_none e = rw (is_page_lem count j n.0 n.1) (by (read j) e)
       where
-        by : (a : Read) → x ≡ gives_back a → x ≡ gives_back (lower_of s a)
-        by unreadable q = q
-        by (readable k) q = let m : k.seq < s = rw (← ap (λ (y : BackRead). y.seq) q) l in rw (lt-ltb k.seq s m) q
-
-    pub lower_back_high : s ≤ x.seq → lower count read s j ≡ unreadable
-    unfolding lower gives_back
-    lower_back_high l = rw (is_page_lem count j n.0 n.1) (by (read j) e)
-      where
-        by : (a : Read) → x ≡ gives_back a → lower_of s a ≡ unreadable
+        by : (a : Read) → None ≡ gives_back a → None ≡ gives_back (lower_of s a)
         by unreadable q = refl
-        by (readable k) q = let m : s ≤ k.seq = rw (← ap (λ (y : BackRead). y.seq) q) l in rw (le-ltb k.seq s m)
+        by (readable k) q = cc
+
+    module _ (x : BackRead) (e : Some x ≡ gives_back (read j)) where
+      pub lower_back_falls : x.seq < s → Some x ≡ gives_back (lower count read s j)
+      unfolding lower gives_back
+      lower_back_falls l = rw (is_page_lem count j n.0 n.1) (by (read j) e)
+        where
+          by : (a : Read) → Some x ≡ gives_back a → Some x ≡ gives_back (lower_of s a)
+          by unreadable q = cc
+          by (readable k) q = let m : k.seq < s = rw (← ap (λ (y : BackRead). y.seq) (same_Some _ _ q)) l in rw (lt-ltb k.seq s m) q
+
+      pub lower_back_high : s ≤ x.seq → None ≡ gives_back (lower count read s j)
+      unfolding lower gives_back
+      lower_back_high l = rw (is_page_lem count j n.0 n.1) (by (read j) e)
+        where
+          by : (a : Read) → Some x ≡ gives_back a → None ≡ gives_back (lower_of s a)
+          by unreadable q = cc
+          by (readable k) q = let m : s ≤ k.seq = rw (← ap (λ (y : BackRead). y.seq) (same_Some _ _ q)) l in rw (le-ltb k.seq s m)
 
 -- ---- a step back
 
 module _ (count : ℕ) (read : ℕ → Read) (t : ℕ) (p : Place) where
-  abbrev step_back : BackStep
-  step_back = told_back p (step (back_rule count t) read (wide p))
+  abbrev step_back : Step Place
+  step_back = told_back (step (back_rule count t) read (wide p))
 
   -- the test of a place, in one: at or below the limit, or a link of none
   module _ (a : Bool) (e : a ≡ eqb p.link none) where
-    pub back_told_stays : leb p.seq t || a ≡ true → record { kind = Stays; place = p } ≡ step_back
-    back_told_stays h = ap (told_back p) (sym (back_stays count read t (wide p) (by (leb p.seq t) refl a e h)))
+    pub back_told_stays : leb p.seq t || a ≡ true → Stays ≡ step_back
+    back_told_stays h = ap told_back (sym (back_stays count read t (wide p) (by (leb p.seq t) refl a e h)))
       where
         by : (x : Bool) → leb p.seq t ≡ x → (y : Bool) → y ≡ eqb p.link none → x || y ≡ true → (p.seq ≤ t) ⊎ (p.link ≡ none)
         by true u y v w = inl (leb-true p.seq t u)
@@ -84,38 +94,37 @@ module _ (count : ℕ) (read : ℕ → Read) (t : ℕ) (p : Place) where
         by true u y v w = absurd (subst (λ (x : Bool). cond x (Unit {0}) ⊥) w tt)
         by false u y v w = (leb-false p.seq t u, eqb-false p.link none (sym v ∙ w))
 
-    module _ (h : leb p.seq t || a ≡ false) (x : BackRead) (r : x ≡ gives_back (lower count read p.seq p.link)) where
-      pub back_told_reaches : x.ok ≡ true
-          → record { kind = Reaches; place = record { page_id = p.link; seq = x.seq; link = x.link } } ≡ step_back
-      back_told_reaches o =
+    module _ (h : leb p.seq t || a ≡ false) where
+      pub back_told_reaches : (x : BackRead) → Some x ≡ gives_back (lower count read p.seq p.link)
+          → Reaches (record { page_id = p.link; seq = x.seq; link = x.link }) ≡ step_back
+      back_told_reaches x r =
           let g = goes_on h in
-          let b = back_read x _ r o in
-          ap (λ (y : BackRead). record { kind = Reaches; place = record { page_id = p.link; seq = y.seq; link = y.link } }) b.2
-          ∙ ap (told_back p) (sym (back_goes count read t (wide p) g.0 g.1 ∙ ap (reached p.link) b.1))
+          let b = back_read (Some x) _ x r refl in
+          ap (λ (y : BackRead). Reaches (record { page_id = p.link; seq = y.seq; link = y.link })) b.2
+          ∙ ap told_back (sym (back_goes count read t (wide p) g.0 g.1 ∙ ap (reached p.link) b.1))
 
-      pub back_told_breaks : x.ok ≡ false → record { kind = Breaks; place = p } ≡ step_back
-      back_told_breaks o =
+      pub back_told_breaks : None ≡ gives_back (lower count read p.seq p.link) → Breaks ≡ step_back
+      back_told_breaks r =
           let g = goes_on h in
-          ap (told_back p) (sym (back_goes count read t (wide p) g.0 g.1 ∙ ap (reached p.link) (back_none x _ r o)))
+          ap told_back (sym (back_goes count read t (wide p) g.0 g.1 ∙ ap (reached p.link) (back_none None _ r refl)))
 
 -- ---- a step back, as the code tells it: of the page that it reaches the code has the place
 
 abbrev pub Reached : Stepped → Place → Type 0
 Reached s x = (q : PagePointer) × (s ≡ reaches q) × (x ≡ place_of q)
 
-abbrev pub BacksTo : Stepped → Kind → Place → Type 0
-BacksTo s Stays x = s ≡ stays
-BacksTo s Breaks x = s ≡ breaks
-BacksTo s Reaches x = Reached s x
+abbrev pub BacksTo : Stepped → Step Place → Type 0
+BacksTo s Stays = s ≡ stays
+BacksTo s Breaks = s ≡ breaks
+BacksTo s (Reaches x) = Reached s x
 
-backs_of : (p : Place) (s : Stepped) → BacksTo s (told_back p s).kind (told_back p s).place
-backs_of p stays = refl
-backs_of p breaks = refl
-backs_of p (reaches q) = (q, refl, refl)
+backs_of : (s : Stepped) → BacksTo s (told_back s)
+backs_of stays = refl
+backs_of breaks = refl
+backs_of (reaches q) = (q, refl, refl)
 
-pub backs_to : (p : Place) (x : BackStep) (k : Kind) (s : Stepped) → x ≡ told_back p s → x.kind ≡ k → BacksTo s k x.place
-backs_to p x k s e o =
-    subst (λ (k : Kind). BacksTo s k x.place) o (subst (λ (y : BackStep). BacksTo s y.kind y.place) (sym e) (backs_of p s))
+pub backs_to : (x : Step Place) (s : Stepped) → x ≡ told_back s → BacksTo s x
+backs_to x s e = subst (BacksTo s) (sym e) (backs_of s)
 
 -- ---- a page and its place step and walk alike
 
@@ -146,23 +155,23 @@ module _ (count : ℕ) (read : ℕ → Read) (t : ℕ) where
   -- ---- a step as the code tells it, and what it says of the walk from a place
 
   module _ (p : Place) where
-    abbrev pub SaysBack : Kind → Place → Type 0
-    SaysBack Stays q = walk_back count read t p ≡ stop (at (wide p))
-    SaysBack Breaks q = (walk_back count read t p).ends ≡ damaged
-    SaysBack Reaches q = (walk_back count read t p ≡ through q.page_id (walk_back count read t q)) × (q.seq < p.seq)
+    abbrev pub SaysBack : Step Place → Type 0
+    SaysBack Stays = walk_back count read t p ≡ stop (at (wide p))
+    SaysBack Breaks = (walk_back count read t p).ends ≡ damaged
+    SaysBack (Reaches q) = (walk_back count read t p ≡ through q.page_id (walk_back count read t q)) × (q.seq < p.seq)
 
-    says_of : (k : Kind) (x : Place) → BacksTo (step (back_rule count t) read (wide p)) k x → SaysBack k x
+    says_of : (x : Step Place) → BacksTo (step (back_rule count t) read (wide p)) x → SaysBack x
     unfolding walk_back
-    says_of Stays x g = ap thin (stays_trace (back_rule count t) (back_falling count t) read (wide p) g)
-    says_of Breaks x g = ap thinned (breaks_trace (back_rule count t) (back_falling count t) read (wide p) g)
-    says_of Reaches x g =
+    says_of Stays g = ap thin (stays_trace (back_rule count t) (back_falling count t) read (wide p) g)
+    says_of Breaks g = ap thinned (breaks_trace (back_rule count t) (back_falling count t) read (wide p) g)
+    says_of (Reaches x) g =
         let w = reaches_trace (back_rule count t) (back_falling count t) read (wide p) g.0 g.1 in
         rw g.2 (ap thin w.0 ∙ ap (through g.0.page_id) (sym (walk_wide g.0)), w.1)
 
-    pub says_back : (x : BackStep) (k : Kind) → x ≡ told_back p (step (back_rule count t) read (wide p)) → x.kind ≡ k → SaysBack k x.place
-    says_back x k e o = says_of k x.place (backs_to p x k _ e o)
+    pub says_back : (x : Step Place) → x ≡ told_back (step (back_rule count t) read (wide p)) → SaysBack x
+    says_back x e = says_of x (backs_to x _ e)
 
   -- of a page: the step from its place is its step
-  pub backs_from : (p : PagePointer) (x : BackStep) (k : Kind) (y : Place) → y ≡ place_of p → x ≡ told_back y (step (back_rule count t) read (wide y)) → x.kind ≡ k
-      → BacksTo (step (back_rule count t) read p) k x.place
-  backs_from p x k y l e o = backs_to y x k _ (e ∙ ap (told_back y) (ap (λ (z : Place). step (back_rule count t) read (wide z)) l ∙ step_wide p)) o
+  pub backs_from : (p : PagePointer) (x : Step Place) (y : Place) → y ≡ place_of p → x ≡ told_back (step (back_rule count t) read (wide y))
+      → BacksTo (step (back_rule count t) read p) x
+  backs_from p x y l e = backs_to x _ (e ∙ ap told_back (ap (λ (z : Place). step (back_rule count t) read (wide z)) l ∙ step_wide p))

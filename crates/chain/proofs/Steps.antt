@@ -17,15 +17,14 @@ use Rattle.seq.proofs.Laws.{level_below}
 use Rattle.page.specs.Page.{Read, unreadable, readable, gives}
 use Rattle.page.proofs.Headers.{given_read, given_none}
 use Rattle.page.specs.declared.DataHeader.{DataHeader}
-use Rattle.page.specs.declared.HeaderRead.{HeaderRead}
 use Rattle.chain.specs.declared.PagePointer.{PagePointer}
-use Rattle.chain.specs.declared.Kind.{Kind}
-use Rattle.chain.specs.declared.Kind.TheVariants.{Stays, Reaches, Breaks}
+use Rattle.std.proofs.lemmas.Option.{same_Some}
 use Rattle.chain.specs.declared.Step.{Step}
+use Rattle.chain.specs.declared.Step.TheVariants.{Stays, Reaches, Breaks}
 use Rattle.chain.specs.declared.Found.{Found}
 use Rattle.chain.specs.Links.{start, link}
 use Rattle.chain.specs.Steps.{lost, via, is_page, towards, Rule, seek_rule, back_rule, Stepped, stays, reaches, breaks, entered, stepped, lower_of, lower, step, at, damaged, Trace, stop, through, trace}
-use Rattle.chain.specs.Seek.{told, found_by, found}
+use Rattle.chain.specs.Seek.{told, located_by, located}
 use Rattle.chain.proofs.Rules.{none_no_page, outside_no_page, is_page_lem, seek_asks, back_asks, seek_here, seek_on, back_here, back_none, back_on}
 
 -- ---- reading a lower page
@@ -54,23 +53,32 @@ module _ (count : ℕ) (read : ℕ → Read) (s j : ℕ) where
   unfolding lower
   lower_outside h = rw (outside_no_page count j h)
 
-  -- where the page is there, and x what reading its header gives
-  module _ (n : j ≡ none → ⊥) (h : j < count) (x : HeaderRead) (e : x ≡ gives (read j)) where
-    pub lower_falls : x.header.seq < s → x ≡ gives (lower count read s j)
+  -- where the page is there, and what reading its header gives
+  module _ (n : j ≡ none → ⊥) (h : j < count) where
+    pub lower_missing : None ≡ gives (read j) → None ≡ gives (lower count read s j)
     unfolding lower gives
-    lower_falls l = rw (is_page_lem count j n h) (by (read j) e)
+    lower_missing e = rw (is_page_lem count j n h) (by (read j) e)
       where
-        by : (a : Read) → x ≡ gives a → x ≡ gives (lower_of s a)
-        by unreadable q = q
-        by (readable k) q = let m : k.seq < s = rw (← ap (λ (y : HeaderRead). y.header.seq) q) l in rw (lt-ltb k.seq s m) q
-
-    pub lower_high : s ≤ x.header.seq → lower count read s j ≡ unreadable
-    unfolding lower gives
-    lower_high l = rw (is_page_lem count j n h) (by (read j) e)
-      where
-        by : (a : Read) → x ≡ gives a → lower_of s a ≡ unreadable
+        by : (a : Read) → None ≡ gives a → None ≡ gives (lower_of s a)
         by unreadable q = refl
-        by (readable k) q = let m : s ≤ k.seq = rw (← ap (λ (y : HeaderRead). y.header.seq) q) l in rw (le-ltb k.seq s m)
+        by (readable k) q = cc
+
+    module _ (x : DataHeader) (e : Some x ≡ gives (read j)) where
+      pub lower_falls : x.seq < s → Some x ≡ gives (lower count read s j)
+      unfolding lower gives
+      lower_falls l = rw (is_page_lem count j n h) (by (read j) e)
+        where
+          by : (a : Read) → Some x ≡ gives a → Some x ≡ gives (lower_of s a)
+          by unreadable q = cc
+          by (readable k) q = let m : k.seq < s = rw (← ap (λ (y : DataHeader). y.seq) (same_Some _ _ q)) l in rw (lt-ltb k.seq s m) q
+
+      pub lower_high : s ≤ x.seq → None ≡ gives (lower count read s j)
+      unfolding lower gives
+      lower_high l = rw (is_page_lem count j n h) (by (read j) e)
+        where
+          by : (a : Read) → Some x ≡ gives a → None ≡ gives (lower_of s a)
+          by unreadable q = cc
+          by (readable k) q = let m : s ≤ k.seq = rw (← ap (λ (y : DataHeader). y.seq) (same_Some _ _ q)) l in rw (le-ltb k.seq s m)
 
 -- ---- a step to a lower page
 
@@ -127,51 +135,49 @@ module _ (count : ℕ) (read : ℕ → Read) (t : ℕ) (p : PagePointer) where
       rw (seek_on count t p h, e, level_below h) (lower_stepped (seek_rule count t) read p count (link p (index t (start p))) (seek_asks count t p))
 
   -- what the code read, and the step that it is
-  module _ (j : ℕ) (x : HeaderRead) (e : x ≡ gives (lower count read (start p) j)) where
-    module _ (h : t < start p) (l : j ≡ link p (level t (start p))) where
-      pub seek_reaches : x.ok ≡ true → step (seek_rule count t) read p ≡ reaches (record { page_id = j; header = x.header })
-      seek_reaches o = seek_goes h l ∙ ap (reached j) (given_read x (lower count read (start p) j) e o)
+  module _ (j : ℕ) (h : t < start p) (l : j ≡ link p (level t (start p))) where
+    pub seek_reaches : (x : DataHeader) → Some x ≡ gives (lower count read (start p) j) → step (seek_rule count t) read p ≡ reaches (record { page_id = j; header = x })
+    seek_reaches x e = seek_goes h l ∙ ap (reached j) (given_read (Some x) (lower count read (start p) j) x e refl)
 
-      pub seek_breaks : x.ok ≡ false → step (seek_rule count t) read p ≡ breaks
-      seek_breaks o = seek_goes h l ∙ ap (reached j) (given_none x (lower count read (start p) j) e o)
+    pub seek_breaks : None ≡ gives (lower count read (start p) j) → step (seek_rule count t) read p ≡ breaks
+    seek_breaks e = seek_goes h l ∙ ap (reached j) (given_none None (lower count read (start p) j) e refl)
 
 -- ---- a step, as the code tells it
 
-abbrev pub StepsTo : Stepped → Kind → PagePointer → Type 0
-StepsTo s Stays q = s ≡ stays
-StepsTo s Breaks q = s ≡ breaks
-StepsTo s Reaches q = s ≡ reaches q
+abbrev pub StepsTo : Stepped → Step PagePointer → Type 0
+StepsTo s Stays = s ≡ stays
+StepsTo s Breaks = s ≡ breaks
+StepsTo s (Reaches q) = s ≡ reaches q
 
-steps_of : (p : PagePointer) (s : Stepped) → StepsTo s (told p s).kind (told p s).page
-steps_of p stays = refl
-steps_of p breaks = refl
-steps_of p (reaches q) = refl
+steps_of : (s : Stepped) → StepsTo s (told s)
+steps_of stays = refl
+steps_of breaks = refl
+steps_of (reaches q) = refl
 
-pub steps_to : (p : PagePointer) (x : Step) (k : Kind) (s : Stepped) → x ≡ told p s → x.kind ≡ k → StepsTo s k x.page
-steps_to p x k s e o =
-    subst (λ (k : Kind). StepsTo s k x.page) o (subst (λ (y : Step). StepsTo s y.kind y.page) (sym e) (steps_of p s))
+pub steps_to : (x : Step PagePointer) (s : Stepped) → x ≡ told s → StepsTo s x
+steps_to x s e = subst (StepsTo s) (sym e) (steps_of s)
 
 -- ---- the answer of a seek by its steps
 
 -- what is answered in the end, from page p on, after n headers
-abbrev pub after : Rule → (ℕ → Read) → PagePointer → ℕ → PagePointer → Found
-after r read first n p = found_by first (n + length (trace r read p).path) (trace r read p).ends
+abbrev pub after : Rule → (ℕ → Read) → ℕ → PagePointer → Option Found
+after r read n p = located_by (n + length (trace r read p).path) (trace r read p).ends
 
-pub after_first : (r : Rule) (read : ℕ → Read) (p : PagePointer) (n : ℕ) → n ≡ 0 → after r read p n p ≡ found p (trace r read p)
+pub after_first : (r : Rule) (read : ℕ → Read) (p : PagePointer) (n : ℕ) → n ≡ 0 → after r read n p ≡ located (trace r read p)
 after_first r read p n e =
     let l = length (trace r read p).path in
     let m : n + l ≡ l = omega arith in
-    ap (λ (x : ℕ). found_by p x (trace r read p).ends) m
+    ap (λ (x : ℕ). located_by x (trace r read p).ends) m
 
-module _ (r : Rule) (read : ℕ → Read) (first : PagePointer) (n : ℕ) (p : PagePointer) where
-  pub after_stays : trace r read p ≡ stop (at p) → record { ok = true; count = n; page = p } ≡ after r read first n p
-  after_stays e = sym (ap (λ (t : Trace). found_by first (n + length t.path) t.ends) e ∙ simp add-zero)
+module _ (r : Rule) (read : ℕ → Read) (n : ℕ) (p : PagePointer) where
+  pub after_stays : trace r read p ≡ stop (at p) → Some (record { count = n; page = p }) ≡ after r read n p
+  after_stays e = sym (ap (λ (t : Trace). located_by (n + length t.path) t.ends) e ∙ simp add-zero)
 
-  pub after_breaks : (trace r read p).ends ≡ damaged → record { ok = false; count = 0; page = first } ≡ after r read first n p
-  after_breaks e = sym (ap (found_by first (n + length (trace r read p).path)) e)
+  pub after_breaks : (trace r read p).ends ≡ damaged → None ≡ after r read n p
+  after_breaks e = sym (ap (located_by (n + length (trace r read p).path)) e)
 
-  pub after_reaches : (q : PagePointer) → trace r read p ≡ through q.page_id (trace r read q) → after r read first (n + 1) q ≡ after r read first n p
+  pub after_reaches : (q : PagePointer) → trace r read p ≡ through q.page_id (trace r read q) → after r read (n + 1) q ≡ after r read n p
   after_reaches q e =
       let l = length (trace r read q).path in
       let m : n + 1 + l ≡ n + suc l = omega arith in
-      ap (λ (x : ℕ). found_by first x (trace r read q).ends) m ∙ sym (ap (λ (t : Trace). found_by first (n + length t.path) t.ends) e)
+      ap (λ (x : ℕ). located_by x (trace r read q).ends) m ∙ sym (ap (λ (t : Trace). located_by (n + length t.path) t.ends) e)

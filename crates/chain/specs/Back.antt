@@ -1,11 +1,10 @@
 -- Walking back with no more of a header at hand than a step back asks. Assumes nothing: these are definitions.
-use Rattle.std.specs.Prelude.{[], ◌∷◌, ℕ, true, false}
+use Rattle.std.specs.Prelude.{[], ◌∷◌, ℕ, Option, Some, None}
 use Rattle.page.specs.Page.{Read}
 use Rattle.chain.specs.declared.PagePointer.{PagePointer}
 use Rattle.chain.specs.declared.Place.{Place}
-use Rattle.chain.specs.declared.Kind.TheVariants.{Stays, Reaches, Breaks}
-use Rattle.chain.specs.declared.BackStep.{BackStep}
-use Rattle.chain.specs.declared.Reached.{Reached}
+use Rattle.chain.specs.declared.Step.{Step}
+use Rattle.chain.specs.declared.Step.TheVariants.{Stays, Reaches, Breaks}
 use Rattle.chain.specs.Links.{start, link}
 use Rattle.chain.specs.Steps.{Stepped, stays, reaches, breaks, Sought, damaged, at, Trace, walk}
 
@@ -16,11 +15,11 @@ place_of p = record { page_id = p.page_id; seq = start p; link = link p 0 }
 abbrev pub wide : Place → PagePointer
 wide p = record { page_id = p.page_id; header = record { seq = p.seq; skiplist = p.link ∷ []; record_boundary = 0; length = 0 } }
 
--- where a step back ends; where it reaches no page the one at hand stands there
-abbrev pub told_back : Place → Stepped → BackStep
-told_back p stays = record { kind = Stays; place = p }
-told_back p (reaches q) = record { kind = Reaches; place = place_of q }
-told_back p breaks = record { kind = Breaks; place = p }
+-- where a step back ends
+abbrev pub told_back : Stepped → Step Place
+told_back stays = Stays
+told_back (reaches q) = Reaches (place_of q)
+told_back breaks = Breaks
 
 -- a walk, of whose last page no more is told
 abbrev pub thinned : Sought → Sought
@@ -33,7 +32,7 @@ thin t = record { path = t.path; ends = thinned t.ends }
 unfoldable pub walk_back : ℕ → (ℕ → Read) → ℕ → Place → Trace
 walk_back count read limit p = thin (walk count read limit (wide p))
 
--- where a walk back ends; where it ends at no page the one it began at stands there
-abbrev pub reached_by : Place → Sought → Reached
-reached_by p damaged = record { ok = false; place = p }
-reached_by p (at q) = record { ok = true; place = place_of q }
+-- where a walk back ends, if at a page
+abbrev pub reached_by : Sought → Option Place
+reached_by damaged = None
+reached_by (at q) = Some (place_of q)

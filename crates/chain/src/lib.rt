@@ -6,73 +6,51 @@ ghost use Rattle.seq.specs.Seq.{level};
 ghost use Rattle.page.specs.Page.{gives, gives_back};
 ghost use Rattle.chain.specs.Links.{start, link, no_links, linked, links_after};
 ghost use Rattle.chain.specs.Steps.{read_at, lower, step, back_rule, seek};
-ghost use Rattle.chain.specs.Seek.{told, found};
+ghost use Rattle.chain.specs.Seek.{told, located};
 ghost use Rattle.chain.specs.Back.{place_of, wide, told_back, walk_back, reached_by};
 ghost use Rattle.chain.specs.Files.{last_of};
 
-use page::{BackRead, DataHeader, HeaderRead};
-use seq::ids::{OptionPageID, PageOption};
+use page::{BackRead, DataHeader};
+use seq::ids::OptionPageID;
 use state::types::FileRecord;
 
 // A page of a file with its header.
-#[derive(Clone, Copy)]
+#[derive(Clone, Copy, Debug, PartialEq, Eq)]
 pub struct PagePointer {
     pub page_id: u16,
     pub header: DataHeader,
 }
 
-#[derive(Clone, Copy)]
-pub enum Kind {
-    Stays,
-    Reaches,
-    Breaks,
-}
-
-// Where a step ends: page is the one reached, else the one stepped from.
-#[derive(Clone, Copy)]
-pub struct Step {
-    pub kind: Kind,
-    pub page: PagePointer,
-}
-
 // A page of a file with what a step back asks of its header: its first number and its link 0.
-#[derive(Clone, Copy)]
+#[derive(Clone, Copy, Debug, PartialEq, Eq)]
 pub struct Place {
     pub page_id: u16,
     pub seq: u32,
     pub link: u16,
 }
 
-// Where a step back ends: place is the page reached, else the one stepped from.
-#[derive(Clone, Copy)]
-pub struct BackStep {
-    pub kind: Kind,
-    pub place: Place,
+// What a step from a page comes to: it is the last of the walk, another page is reached, or one should be and is not.
+#[derive(Clone, Copy, Debug, PartialEq, Eq)]
+pub enum Step<P> {
+    Stays,
+    Reaches(P),
+    Breaks,
 }
 
-// Where a walk back ends. Damaged: the page that it began at.
-#[derive(Clone, Copy)]
-pub struct Reached {
-    pub ok: bool,
-    pub place: Place,
-}
-
-// Where a seek ends, and how many headers it read. Damaged: the page that it began at, and 0.
-#[derive(Clone, Copy)]
+// Where a seek ends, and how many headers it read.
+#[derive(Clone, Copy, Debug, PartialEq, Eq)]
 pub struct Found {
-    pub ok: bool,
     pub count: u32,
     pub page: PagePointer,
 }
 
 // A file's last page, as its record has it.
-pub fn last_of(f: FileRecord) -> PagePointer
-    ensures { result ≡ last_of f }
+pub fn last_of(f: &FileRecord) -> PagePointer
+    ensures { result ≡ last_of f.now }
 {
-    let header = f.header;
     PagePointer {
         page_id: f.last_page,
-        header,
+        header: f.header,
     }
 }
 
@@ -88,158 +66,105 @@ fn new_links(links: [u16; 9], top: usize, id: u16) -> [u16; 9]
     ensures { result ≡ linked links top id }
 {
     let mut out = links;
-    let mut i: usize = 0;
-    while i < 9 {
-        if top < i {
-            return out;
-        }
-        out[i] = id;
-        i += 1;
-    }
+    let named = top.min(8) + 1;
+    out[..named].fill(id);
     out
 }
 
 // Those of a page that starts at seq behind page p.
-pub fn links_after(p: PagePointer, seq: u32) -> [u16; 9]
-    ensures { result ≡ links_after p seq }
+pub fn links_after(p: &PagePointer, seq: u32) -> [u16; 9]
+    ensures { result ≡ links_after p.now seq }
 {
-    let h = p.header;
-    let links = h.skiplist;
-    new_links(links, seq::numbers::link_index(h.seq, seq), p.page_id)
+    let top = seq::numbers::link_index(p.header.seq, seq);
+    new_links(p.header.skiplist, top, p.page_id)
 }
 
 // ---- a lower page
 
 // The header of page id, if that is a page below count and its seq is below start: what both kinds of step ask.
-fn lower(image: &[u8], count: usize, start: u32, id: u16) -> HeaderRead
+fn lower(image: &[u8], count: usize, start: u32, id: u16) -> Option<DataHeader>
     ensures { result ≡ gives (lower count (read_at image.now) start id) }
 {
-    let named = OptionPageID::from_raw(id).into_option();
-    let PageOption::Some(page) = named else {
-        return page::unread();
-    };
-    let at = page.index();
+    let at = OptionPageID::from_raw(id).into_option()?.index();
     if count <= at {
-        return page::unread();
+        return None;
     }
-    let read = page::header_at(image, at);
-    let header = read.header;
+    let header = page::header_at(image, at)?;
     if header.seq < start {
-        return read;
+        return Some(header);
     }
-    page::unread()
+    None
 }
 
 // Of it what a step back asks.
-fn lower_back(image: &[u8], count: usize, start: u32, id: u16) -> BackRead
+fn lower_back(image: &[u8], count: usize, start: u32, id: u16) -> Option<BackRead>
     ensures { result ≡ gives_back (lower count (read_at image.now) start id) }
 {
-    let at = id as usize;
-    if OptionPageID::from_raw(id).is_none() | (count <= at) {
-        return page::unread_back();
+    let at = OptionPageID::from_raw(id).into_option()?.index();
+    if count <= at {
+        return None;
     }
-    let read = page::back_at(image, at);
+    let read = page::back_at(image, at)?;
     if read.seq < start {
-        return read;
+        return Some(read);
     }
-    page::unread_back()
+    None
 }
 
 // ---- back
 
 // What a step back asks of a page whose header is at hand.
-pub fn place_of(p: PagePointer) -> Place
-    ensures { result ≡ place_of p }
+pub fn place_of(p: &PagePointer) -> Place
+    ensures { result ≡ place_of p.now }
 {
-    let h = p.header;
     Place {
         page_id: p.page_id,
-        seq: h.seq,
-        link: h.skiplist[0],
+        seq: p.header.seq,
+        link: p.header.skiplist[0],
     }
 }
 
 // One step back, to the page before p, for a p that starts above limit: the code of the rule, which all walks share.
-pub fn back(image: &[u8], count: usize, p: Place, limit: u32) -> BackStep
-    ensures { result ≡ told_back p (step (back_rule count limit) (read_at image.now) (wide p)) }
+pub fn back(image: &[u8], count: usize, p: Place, limit: u32) -> Step<Place>
+    ensures { result ≡ told_back (step (back_rule count limit) (read_at image.now) (wide p)) }
 {
     if (p.seq <= limit) | OptionPageID::from_raw(p.link).is_none() {
-        return BackStep {
-            kind: Kind::Stays,
-            place: p,
-        };
+        return Step::Stays;
     }
-    let next = lower_back(image, count, p.seq, p.link);
-    if next.ok {
-        return BackStep {
-            kind: Kind::Reaches,
-            place: Place {
-                page_id: p.link,
-                seq: next.seq,
-                link: next.link,
-            },
-        };
-    }
-    BackStep {
-        kind: Kind::Breaks,
-        place: p,
+    match lower_back(image, count, p.seq, p.link) {
+        Some(next) => Step::Reaches(Place {
+            page_id: p.link,
+            seq: next.seq,
+            link: next.link,
+        }),
+        None => Step::Breaks,
     }
 }
 
-// The same with the header of the page reached.
-pub fn prev(image: &[u8], count: usize, p: PagePointer, limit: u32) -> Step
-    ensures { result ≡ told p (step (back_rule count limit) (read_at image.now) p) }
+// The same with the header of the page reached, which reads: the step read it.
+pub fn prev(image: &[u8], count: usize, p: &PagePointer, limit: u32) -> Step<PagePointer>
+    ensures { result ≡ told (step (back_rule count limit) (read_at image.now) p.now) }
 {
-    let next = back(image, count, place_of(p), limit);
-    let kind = next.kind;
-    let to = next.place;
-    match kind {
-        Kind::Stays => Step {
-            kind: Kind::Stays,
-            page: p,
-        },
-        Kind::Breaks => Step {
-            kind: Kind::Breaks,
-            page: p,
-        },
-        Kind::Reaches => {
-            let read = page::header_at(image, to.page_id as usize);
-            let header = read.header;
-            Step {
-                kind: Kind::Reaches,
-                page: PagePointer {
-                    page_id: to.page_id,
-                    header,
-                },
-            }
-        }
+    match back(image, count, place_of(p), limit) {
+        Step::Stays => Step::Stays,
+        Step::Breaks => Step::Breaks,
+        Step::Reaches(to) => Step::Reaches(PagePointer {
+            page_id: to.page_id,
+            header: page::header_at(image, to.page_id as usize).unwrap(),
+        }),
     }
 }
 
-// Where the walk back to limit ends.
-pub fn walk_back(image: &[u8], count: usize, p: Place, limit: u32) -> Reached
-    ensures { result ≡ reached_by p (walk_back count (read_at image.now) limit p).ends }
+// Where the walk back to limit ends, if at a page.
+pub fn walk_back(image: &[u8], count: usize, p: Place, limit: u32) -> Option<Place>
+    ensures { result ≡ reached_by (walk_back count (read_at image.now) limit p).ends }
 {
     let mut here = p;
     loop {
-        let next = back(image, count, here, limit);
-        let kind = next.kind;
-        match kind {
-            Kind::Stays => {
-                return Reached {
-                    ok: true,
-                    place: here,
-                };
-            }
-            Kind::Breaks => {
-                return Reached {
-                    ok: false,
-                    place: p,
-                };
-            }
-            Kind::Reaches => {
-                here = next.place;
-            }
+        match back(image, count, here, limit) {
+            Step::Stays => return Some(here),
+            Step::Breaks => return None,
+            Step::Reaches(next) => here = next,
         }
     }
 }
@@ -247,41 +172,27 @@ pub fn walk_back(image: &[u8], count: usize, p: Place, limit: u32) -> Reached
 // ---- the seek
 
 // The link that leads from p toward seq.
-fn link_toward(p: PagePointer, seq: u32) -> u16
-    ensures { result ≡ link p (level seq (start p)) }
+fn link_toward(p: &PagePointer, seq: u32) -> u16
+    ensures { result ≡ link p.now (level seq (start p.now)) }
 {
-    let h = p.header;
-    let i = seq::numbers::link_index(seq, h.seq);
-    h.skiplist[i]
+    let i = seq::numbers::link_index(seq, p.header.seq);
+    p.header.skiplist[i]
 }
 
 // The page that holds seq, by the links, from a page whose header is at hand.
-pub fn prev_seq(image: &[u8], count: usize, p: PagePointer, seq: u32) -> Found
-    ensures { result ≡ found p (seek count (read_at image.now) seq p) }
+pub fn prev_seq(image: &[u8], count: usize, p: PagePointer, seq: u32) -> Option<Found>
+    ensures { result ≡ located (seek count (read_at image.now) seq p) }
 {
     let mut here = p;
     let mut read: u32 = 0;
     while seq < here.header.seq {
-        let id = link_toward(here, seq);
-        let next = lower(image, count, here.header.seq, id);
-        if next.ok {
-            let header = next.header;
-            here = PagePointer {
-                page_id: id,
-                header,
-            };
-            read += 1;
-        } else {
-            return Found {
-                ok: false,
-                count: 0,
-                page: p,
-            };
-        }
+        let page_id = link_toward(&here, seq);
+        let header = lower(image, count, here.header.seq, page_id)?;
+        here = PagePointer { page_id, header };
+        read += 1;
     }
-    Found {
-        ok: true,
+    Some(Found {
         count: read,
         page: here,
-    }
+    })
 }

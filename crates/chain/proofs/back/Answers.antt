@@ -1,6 +1,6 @@
 -- `chain::back` meets its contract: the tests that led to each return say which case it is.
 -- Assumes nothing.
-use mathlib.Core.Path.{◌≡◌, ◌∙◌, ap}
+use mathlib.Core.Path.{◌≡◌, sym, ◌∙◌, ap}
 use Prim.Native.Nat.{ℕ}
 use lib.Dec.{eqb}
 use Rattle.seq.specs.Ids.{none}
@@ -15,10 +15,10 @@ is_none c = c.is_none.ensures ∙ ap (λ (x : ℕ). eqb x none) c.from_raw.ensur
 pub returns-then-p-limit : goal.returns-then-p-limit
 returns-then-p-limit c = back_told_stays _ _ _ _ _ (is_none (goal.at.returns-then-p-limit c).After-is_none) c.if-p-limit.true
 
-pub returns-then-next : goal.returns-then-next
-returns-then-next c =
-    back_told_reaches _ _ _ _ _ (is_none (goal.at.returns-then-next c).After-is_none) c.if-p-limit.false _ c.lower_back-next.ensures c.if-next.true
+pub returns-in-Some : goal.returns-in-Some
+returns-in-Some c =
+    back_told_reaches _ _ _ _ _ (is_none (goal.at.returns-in-Some c).After-is_none) c.if-p-limit.false _ (sym c.in-Some.is ∙ c.lower_back.ensures)
 
-pub returns : goal.returns
-returns c =
-    back_told_breaks _ _ _ _ _ (is_none (goal.at.returns c).After-is_none) c.if-p-limit.false _ c.lower_back-next.ensures c.if-next.false
+pub returns-in-None : goal.returns-in-None
+returns-in-None c =
+    back_told_breaks _ _ _ _ _ (is_none (goal.at.returns-in-None c).After-is_none) c.if-p-limit.false (sym c.in-None.is ∙ c.lower_back.ensures)

@@ -9,11 +9,8 @@ use Rattle.chain.proofs.link_toward.Goals.{After-link_index-i}
 small : (c : After-link_index-i) → c.link_index-i.result ≤ 8
 small c = rw c.link_index-i.ensures (level_le _ _)
 
-pub returns : goal.returns
-returns c = rw c.link_index-i.ensures
+pub offset_bounds-p-i : goal.offset_bounds-p-i
+offset_bounds-p-i c = omega (arith, small (goal.at.offset_bounds-p-i c).After-link_index-i)
 
-pub offset_bounds-h-i : goal.offset_bounds-h-i
-offset_bounds-h-i c = omega (arith, small c)
-
-pub bounds-h-i : goal.bounds-h-i
-bounds-h-i c = omega (arith, small c)
+pub bounds-p-i : goal.bounds-p-i
+bounds-p-i c = omega (arith, small (goal.at.bounds-p-i c).After-link_index-i)

@@ -6,4 +6,4 @@ use Rattle.chain.proofs.links_after.Goals as goal
 
 pub returns : goal.returns
 unfolding links_after
-returns c = c.new_links.ensures ∙ rw c.link_index.ensures
+returns c = c.new_links.ensures ∙ rw c.link_index-top.ensures
