@@ -4,13 +4,14 @@
 use Prim.Native.Nat.{ℕ, zero, suc, ◌+◌, ◌-◌, ◌*◌, ◌/◌, ◌%◌, ◌≤◌, ◌<◌}
 use mathlib.Core.Path.{◌≡◌, refl, sym, ap, ap₂, ◌∙◌}
 use mathlib.Core.List.{List, [], ◌∷◌, ◌++◌, append-nil, append_assoc}
-use mathlib.Core.Bool.{Bool, true, false, cond}
-use native.Mathlib.Nat.{le_of_suc-le-suc, not-suc-le-zero, zero-add, suc-add, add_assoc, sub-zero, zero-sub, suc-sub-suc, div-div-eq-div-mul}
+use mathlib.Core.Bool.{Bool, true, false, cond, ◌&&◌}
+use Rattle.std.specs.List.{list_all}
+use native.Mathlib.Nat.{add-zero, le_of_suc-le-suc, not-suc-le-zero, zero-add, suc-add, add_assoc, sub-zero, zero-sub, suc-sub-suc, div-div-eq-div-mul}
 use native.Mathlib.Numerals.{add-one}
 use native.Mathlib.Omega.{arith}
 use lib.ListN.{length, take, drop, get_or, set, replicate, length-append, length-take, length-drop, drop_of_length-le, get_or-eq_default}
 use lib.Dec.{eqb}
-use lib.Seq.{take_all, length-take-le, take-length, take-nil, take-take, drop-drop, take-add, drop_at, take-append-le, take-append-add, drop-cons, get_or-take}
+use lib.Seq.{get_or-drop, take_all, length-take-le, take-length, take-nil, take-take, drop-drop, take-add, drop_at, take-append-le, take-append-add, drop-cons, get_or-take}
 use borrow.Rule.Slice.PartMut.{put_mid}
 use borrow.Author.Tests.{le-leb, lt-leb}
 use Rattle.runs.specs.Runs.{part, part_of, splice, placed, le16, le32, all_erased}
@@ -206,6 +207,15 @@ le32_past l at h =
     let k : length l ≤ at + 2 = omega arith in
     rw (le16_past l at h, le16_past l (at + 2) k)
 
+-- a field, by what is left from it on
+pub le16_rest : (l : List ℕ) (at : ℕ) (rest : List ℕ) → rest ≡ take (length l - at) (drop at l) → le16 l at ≡ get_or rest 0 0 + get_or rest 1 0 * 256
+unfolding le16
+le16_rest l at rest e =
+    let a = get_or-drop at l 0 0 ∙ ap (λ (i : ℕ). get_or l i 0) (add-zero at) in
+    let b = get_or-drop at l 1 0 in
+    let f : rest ≡ drop at l = e ∙ rest_drop at l in
+    rw (f, a, b) refl
+
 -- a field inside what is taken
 pub le16_take : (n : ℕ) (l : List ℕ) (at : ℕ) → at + 1 < n → le16 (take n l) at ≡ le16 l at
 unfolding le16
@@ -227,5 +237,11 @@ placed_out l at r h = simp (lt-leb _ _ h)
 
 -- ---- erased runs
 
-pub erased_more : (bs : List ℕ) (i : ℕ) → i < length bs → all_erased (drop i bs) ≡ cond (eqb (get_or bs i 0) 255) (all_erased (drop (i + 1) bs)) false
-erased_more bs i h = rw (add-one, drop-cons bs i 0 h)
+-- the test of each byte
+pub erased_all : (bs : List ℕ) → list_all (λ x. eqb x 255) bs ≡ all_erased bs
+erased_all [] = refl
+erased_all (x ∷ bs) = by (eqb x 255) (erased_all bs)
+  where
+    by : (b : Bool) → list_all (λ x. eqb x 255) bs ≡ all_erased bs → (b && list_all (λ x. eqb x 255) bs) ≡ cond b (all_erased bs) false
+    by true ih = ih
+    by false ih = refl
