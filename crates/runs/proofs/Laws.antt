@@ -207,14 +207,17 @@ le32_past l at h =
     let k : length l ≤ at + 2 = omega arith in
     rw (le16_past l at h, le16_past l (at + 2) k)
 
--- a field, by what is left from it on
-pub le16_rest : (l : List ℕ) (at : ℕ) (rest : List ℕ) → rest ≡ take (length l - at) (drop at l) → le16 l at ≡ get_or rest 0 0 + get_or rest 1 0 * 256
+-- a field of what is left from some way on
+pub le16_drop : (l : List ℕ) (a i : ℕ) → le16 (drop a l) i ≡ le16 l (a + i)
 unfolding le16
-le16_rest l at rest e =
-    let a = get_or-drop at l 0 0 ∙ ap (λ (i : ℕ). get_or l i 0) (add-zero at) in
-    let b = get_or-drop at l 1 0 in
-    let f : rest ≡ drop at l = e ∙ rest_drop at l in
-    rw (f, a, b) refl
+le16_drop l a i = rw (get_or-drop a l i 0, get_or-drop a l (i + 1) 0, add_assoc a i 1)
+
+pub le16_here : (l : List ℕ) (a : ℕ) → le16 (drop a l) 0 ≡ le16 l a
+le16_here l a = rw (le16_drop l a 0, add-zero a)
+
+pub le32_here : (l : List ℕ) (a : ℕ) → le32 (drop a l) 0 ≡ le32 l a
+unfolding le32
+le32_here l a = rw (le16_here l a, le16_drop l a 2)
 
 -- a field inside what is taken
 pub le16_take : (n : ℕ) (l : List ℕ) (at : ℕ) → at + 1 < n → le16 (take n l) at ≡ le16 l at

@@ -49,10 +49,8 @@ pub fn u16_at(s: &[u8], at: usize) -> u16
 pub fn u32_at(s: &[u8], at: usize) -> u32
     ensures { result ≡ le32 s.now at }
 {
-    match at.checked_add(2) {
-        Some(high) => u32::from(u16_at(s, at)) + u32::from(u16_at(s, high)) * 65536,
-        None => 0,
-    }
+    let Some(rest) = s.get(at..) else { return 0 };
+    u32::from(u16_at(rest, 0)) + u32::from(u16_at(rest, 2)) * 65536
 }
 
 // Whether all is 0xFF.

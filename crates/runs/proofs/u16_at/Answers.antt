@@ -1,8 +1,9 @@
 -- `runs::u16_at` meets its contract.
 -- Assumes nothing.
-use Rattle.std.proofs.Common.{◌≤◌, length, arith, sym, ◌∙◌}
+use Rattle.std.proofs.Common.{◌≡◌, ℕ, ◌+◌, ◌-◌, ◌≤◌, ◌<◌, length, get_or, drop, arith, sym, ap, ◌∙◌}
+use Rattle.runs.specs.Runs.{le16}
 use lib.ListN.{get_or-eq_default}
-use Rattle.runs.proofs.Laws.{le16_past, le16_rest}
+use Rattle.runs.proofs.Laws.{le16_past, le16_here, rest_drop}
 use Rattle.runs.proofs.u16_at.Goals as goal
 
 pub returns-in_default : goal.returns-in_default
@@ -19,15 +20,21 @@ returns-in-empty c =
     sym (le16_past a.s.now a.at h)
 
 pub returns-in-len1 : goal.returns-in-len1
+unfolding le16
 returns-in-len1 c =
     let a = c.args in
-    let f = c.in-Some.ensures.lookup in
-    let p : length c.in-Some.rest.now ≤ 1 = omega (arith, c.in-len1.len_below) in
-    let z = get_or-eq_default c.in-Some.rest.now 0 p in
-    omega (arith, c.from.ensures, le16_rest a.s.now a.at c.in-Some.rest.now f.0.2, z)
+    let r = c.in-Some.rest.now in
+    let f = c.in-Some.ensures.lookup.0.2 ∙ rest_drop a.at a.s.now in
+    let p : length r ≤ 1 = omega (arith, c.in-len1.len_below) in
+    let z = get_or-eq_default r 0 p in
+    let e = ap (λ l. le16 l 0) f ∙ le16_here a.s.now a.at in
+    omega (arith, c.from.ensures, e, z)
 
 pub returns-in-len2-up : goal.returns-in-len2-up
+unfolding le16
 returns-in-len2-up c =
     let a = c.args in
-    let f = c.in-Some.ensures.lookup in
-    c.from_le_bytes.ensures ∙ sym (le16_rest a.s.now a.at c.in-Some.rest.now f.0.2)
+    let r = c.in-Some.rest.now in
+    let f = c.in-Some.ensures.lookup.0.2 ∙ rest_drop a.at a.s.now in
+    let e = ap (λ l. le16 l 0) f ∙ le16_here a.s.now a.at in
+    c.from_le_bytes.ensures ∙ e
