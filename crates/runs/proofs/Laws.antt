@@ -30,25 +30,6 @@ get_d_same zero i v = refl
 get_d_same (suc n) zero v = refl
 get_d_same (suc n) (suc i) v = get_d_same n i v
 
--- ---- a loop that copies
-
-copy_suc : (s d : List ℕ) (i : ℕ) → i < length s → i < length d → set (take i s ++ drop i d) i (get_or s i 0) ≡ take (suc i) s ++ drop (suc i) d
-copy_suc [] d i h k = absurd (not-suc-le-zero h)
-copy_suc (x ∷ s) [] i h k = absurd (not-suc-le-zero k)
-copy_suc (x ∷ s) (y ∷ d) zero h k = refl
-copy_suc (x ∷ s) (y ∷ d) (suc i) h k = ap (λ (l : List ℕ). x ∷ l) (copy_suc s d i (le_of_suc-le-suc h) (le_of_suc-le-suc k))
-
--- a store of s's byte at i takes a copy of i bytes to one of i + 1
-pub copy_more : (s d : List ℕ) (i : ℕ) → i < length s → i < length d → set (take i s ++ drop i d) i (get_or s i 0) ≡ take (i + 1) s ++ drop (i + 1) d
-copy_more s d i h k = rw add-one (copy_suc s d i h k)
-
--- a copy of all
-pub copy_all : (s d : List ℕ) (i : ℕ) → i ≤ length s → length s ≤ i → length d ≡ length s → take i s ++ drop i d ≡ s
-copy_all s d i h k e =
-    let a : i ≡ length s = omega arith in
-    let b : length d ≤ i = omega arith in
-    rw (drop_of_length-le d b, a, take-length s) (append-nil s)
-
 -- ---- parts and splices
 
 -- a part, dropped first or taken first
