@@ -97,8 +97,9 @@ pub fn count_free(m: &[u8], count: usize) -> usize
 fn count_all(m: &[u8]) -> usize
     ensures { result ≡ free_count m.now }
 {
-    let mut n = 0;
-    for few in m.chunks(128) {
+    let whole = m.chunks_exact(128);
+    let mut n = usize::from(count_few(whole.remainder()));
+    for few in whole {
         n += usize::from(count_few(few));
     }
     n
