@@ -13,8 +13,8 @@ use lib.Seq.{take_all, take_at, get_or-take, get_or-drop, take-set-lt, take-set-
 use lib.Dec.{ltb, eqb}
 use borrow.Author.Tests.{lt-ltb, le-ltb, le-leb, lt-leb, eq-eqb, ne_eqb, eqb-true, eqb-false, ltb-true, ltb-false}
 use Rattle.runs.proofs.Laws.{cond_by}
-use Rattle.map.specs.declared.Alloc.{Alloc}
-use Rattle.map.specs.declared.Alloc.TheVariants.{Page, Full}
+use Rattle.std.specs.declared.option.Option.{Option}
+use Rattle.std.specs.declared.option.Option.TheVariants.{Some, None}
 use Rattle.map.specs.Map.{held, first_free, alloc_of, alloc_numbers, used_by, Allocation, leaves, allocated, beyond, steps, is_one, count_of, is_free, free_count, unheld, released, cleared}
 
 -- one order or the other
@@ -79,7 +79,8 @@ count_split v zero m = omega arith
 count_split v (suc k) [] = refl
 count_split v (suc k) (x ∷ m) = let h = count_split v k m in omega arith
 
-count_append : (v : ℕ) (a b : List ℕ) → count_of v (a ++ b) ≡ count_of v a + count_of v b
+-- two maps, one behind the other
+pub count_append : (v : ℕ) (a b : List ℕ) → count_of v (a ++ b) ≡ count_of v a + count_of v b
 count_append v [] b = omega arith
 count_append v (x ∷ a) b = let h = count_append v a b in omega arith
 
@@ -146,7 +147,7 @@ some_count l h =
 
 -- ---- allocation
 
-full_not : {i : ℕ} → Page i ≡ Full → ⊥
+full_not : {i : ℕ} → Some i ≡ None → ⊥
 full_not h = let z : ◌≡◌ {A = ℕ} 0 1 = cc in omega arith
 
 -- what an allocation finds: a free page below count, with no free page nearer the cursor going upward and round
@@ -163,16 +164,16 @@ module _ (m : List ℕ) (count cursor : ℕ) where
   abbrev low : List ℕ
   low = take cursor (take count m)
 
-  -- Full exactly if no page below count is free
-  pub alloc_full : alloc_of m count cursor ≡ Full → free_count (take count m) ≡ 0
+  -- none exactly if no page below count is free
+  pub alloc_full : alloc_of m count cursor ≡ None → free_count (take count m) ≡ 0
   unfolding alloc_of
   alloc_full h =
       cond_by (ltb (first_free up) (length up)) _ _ _ h (λ t q. absurd (full_not q))
       (λ t q. cond_by (ltb (first_free low) (length low)) _ _ _ q (λ s q. absurd (full_not q))
       (λ s q. omega (arith, count_split 0 cursor (take count m), none_count up (ltb-false _ _ t), none_count low (ltb-false _ _ s))))
 
-  -- none free: Full
-  pub full_alloc : free_count (take count m) ≡ 0 → alloc_of m count cursor ≡ Full
+  -- none free: none
+  pub full_alloc : free_count (take count m) ≡ 0 → alloc_of m count cursor ≡ None
   unfolding alloc_of
   full_alloc h =
       let e = count_split 0 cursor (take count m) in
@@ -187,30 +188,30 @@ first_here [] h = absurd (omega arith)
 first_here (x ∷ l) h = (rw (eq-eqb x 0 h), omega arith)
 
 -- it is what is found
-pub alloc_here : (m : List ℕ) (count cursor : ℕ) → cursor < count → get_or m cursor 1 ≡ 0 → alloc_of m count cursor ≡ Page cursor
+pub alloc_here : (m : List ℕ) (count cursor : ℕ) → cursor < count → get_or m cursor 1 ≡ 0 → alloc_of m count cursor ≡ Some cursor
 unfolding alloc_of
 alloc_here m count cursor k h =
     let l = drop cursor (take count m) in
     let e : get_or (drop cursor (take count m)) 0 1 ≡ 0 =
     get_or-drop cursor (take count m) 0 1 ∙ ap (λ (i : ℕ). get_or (take count m) i 1) (add-zero cursor) ∙ get_or-take count m cursor 1 k ∙ h in
     let f = first_here l e in
-    rw (f.0, lt-ltb 0 (length l) f.1) (ap Page (add-zero cursor))
+    rw (f.0, lt-ltb 0 (length l) f.1) (ap Some (add-zero cursor))
 
 -- some page is found exactly if one is free
-pub record Some (a : Alloc) : Type 0 where
+pub record Finds (a : Option ℕ) : Type 0 where
   pub page : ℕ
-  pub is : a ≡ Page page
+  pub is : a ≡ Some page
 
 -- one free: a page
-pub alloc_some : (m : List ℕ) (count cursor : ℕ) → 0 < free_count (take count m) → Some (alloc_of m count cursor)
+pub alloc_some : (m : List ℕ) (count cursor : ℕ) → 0 < free_count (take count m) → Finds (alloc_of m count cursor)
 alloc_some m count cursor h = by (alloc_of m count cursor) refl
   where
-    by : (a : Alloc) → alloc_of m count cursor ≡ a → Some a
-    by (Page i) e = record { page = i; is = refl }
-    by Full e = absurd (omega (arith, alloc_full m count cursor e))
+    by : (a : Option ℕ) → alloc_of m count cursor ≡ a → Finds a
+    by (Some i) e = record { page = i; is = refl }
+    by None e = absurd (omega (arith, alloc_full m count cursor e))
 
 -- a page: one was free
-pub some_alloc : (m : List ℕ) (count cursor i : ℕ) → alloc_of m count cursor ≡ Page i → 0 < free_count (take count m)
+pub some_alloc : (m : List ℕ) (count cursor i : ℕ) → alloc_of m count cursor ≡ Some i → 0 < free_count (take count m)
 some_alloc m count cursor i h =
     split (free_count (take count m)) 0
     (λ k. let e : free_count (take count m) ≡ 0 = omega arith in absurd (full_not (sym h ∙ full_alloc m count cursor e))) (λ k. k)
@@ -280,7 +281,7 @@ module _ (m : List ℕ) (count cursor : ℕ) (ok : cursor ≤ count) where
       }
 
   -- what an allocation found
-  pub alloc_found : (i : ℕ) → alloc_of m count cursor ≡ Page i → Found m count cursor i
+  pub alloc_found : (i : ℕ) → alloc_of m count cursor ≡ Some i → Found m count cursor i
   unfolding alloc_of
   alloc_found i h =
       let fu = first_free (up m count cursor) in
@@ -292,36 +293,36 @@ module _ (m : List ℕ) (count cursor : ℕ) (ok : cursor ≤ count) where
       (λ s q. let z : ◌≡◌ {A = ℕ} 0 1 = cc in absurd (omega arith)))
 
   -- then one page fewer is free
-  pub alloc_count : (i : ℕ) → alloc_of m count cursor ≡ Page i → free_count (take count m) ≡ 1 + free_count (take count (used_by m (Page i)))
+  pub alloc_count : (i : ℕ) → alloc_of m count cursor ≡ Some i → free_count (take count m) ≡ 1 + free_count (take count (used_by m (Some i)))
   alloc_count i h =
       let f = alloc_found i h in
       count_take m count i 1 f.inside f.free (λ q. omega arith)
 
 -- an allocation's numbers lose nothing: it can be read back from them
-abbrev found_in : List ℕ → Alloc
-found_in l = cond (eqb (get_or l 0 0) 0) (Page (get_or l 1 0)) Full
+abbrev found_in : List ℕ → Option ℕ
+found_in l = cond (eqb (get_or l 0 0) 0) (Some (get_or l 1 0)) None
 
-found_back : (a : Alloc) → found_in (alloc_numbers a) ≡ a
-found_back (Page i) = refl
-found_back Full = refl
+found_back : (a : Option ℕ) → found_in (alloc_numbers a) ≡ a
+found_back (Some i) = refl
+found_back None = refl
 
-pub alloc_same : (a b : Alloc) → alloc_numbers a ≡ alloc_numbers b → a ≡ b
+pub alloc_same : (a b : Option ℕ) → alloc_numbers a ≡ alloc_numbers b → a ≡ b
 alloc_same a b e = sym (found_back a) ∙ ap found_in e ∙ found_back b
 
 -- so that a promised allocation's answer is the definition's
-pub allocated_answer : (m m' : List ℕ) (count cursor : ℕ) (a : Alloc) → leaves a m' ≡ allocated m count cursor → a ≡ alloc_of m count cursor
+pub allocated_answer : (m m' : List ℕ) (count cursor : ℕ) (a : Option ℕ) → leaves a m' ≡ allocated m count cursor → a ≡ alloc_of m count cursor
 unfolding allocated
 allocated_answer m m' count cursor a h = alloc_same a (alloc_of m count cursor) (ap (λ (x : Allocation). x.answer) h)
 
 -- and what was found is used
-pub allocated_left : (m m' : List ℕ) (count cursor : ℕ) (a : Alloc) → leaves a m' ≡ allocated m count cursor → m' ≡ used_by m (alloc_of m count cursor)
+pub allocated_left : (m m' : List ℕ) (count cursor : ℕ) (a : Option ℕ) → leaves a m' ≡ allocated m count cursor → m' ≡ used_by m (alloc_of m count cursor)
 unfolding allocated
 allocated_left m m' count cursor a h = ap (λ (x : Allocation). x.left) h
 
 -- the map keeps its length
-pub used_length : (m : List ℕ) (a : Alloc) → length (used_by m a) ≡ length m
-used_length m (Page i) = length-set m i 1
-used_length m Full = refl
+pub used_length : (m : List ℕ) (a : Option ℕ) → length (used_by m a) ≡ length m
+used_length m (Some i) = length-set m i 1
+used_length m None = refl
 
 -- one beyond stays inside
 pub beyond_inside : (count i : ℕ) → 0 < count → beyond count i < count

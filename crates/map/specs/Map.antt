@@ -1,8 +1,8 @@
 -- The page map, by document 01, leaf 4: a byte for each page, 0 free, 1 used, 2 held, 3 outside page_count.
 -- Assumes nothing.
 use Rattle.std.specs.Prelude.{ℕ, zero, suc, ◌+◌, ◌-◌, min, List, [], ◌∷◌, ◌++◌, map, cond, length, take, drop, set, replicate, leb, ltb, eqb}
-use Rattle.map.specs.declared.Alloc.{Alloc}
-use Rattle.map.specs.declared.Alloc.TheVariants.{Page, Full}
+use Rattle.std.specs.declared.option.Option.{Option}
+use Rattle.std.specs.declared.option.Option.TheVariants.{Some, None}
 
 abbrev pub free : ℕ
 free = 0
@@ -24,29 +24,29 @@ first_free [] = zero
 first_free (x ∷ m) = cond (eqb x free) zero (suc (first_free m))
 
 -- the first free id below count from the cursor upward, and round
-unfoldable pub alloc_of : List ℕ → ℕ → ℕ → Alloc
+unfoldable pub alloc_of : List ℕ → ℕ → ℕ → Option ℕ
 alloc_of m count cursor =
     let up = drop cursor (take count m) in
     let low = take cursor (take count m) in
-    cond (ltb (first_free up) (length up)) (Page (cursor + first_free up))
-    (cond (ltb (first_free low) (length low)) (Page (first_free low)) Full)
+    cond (ltb (first_free up) (length up)) (Some (cursor + first_free up))
+    (cond (ltb (first_free low) (length low)) (Some (first_free low)) None)
 
 -- an answer in document 01's numbers: 0 and the page, or 8, NoRoom
-abbrev pub alloc_numbers : Alloc → List ℕ
-alloc_numbers (Page i) = 0 ∷ i ∷ []
-alloc_numbers Full = 8 ∷ []
+abbrev pub alloc_numbers : Option ℕ → List ℕ
+alloc_numbers (Some i) = 0 ∷ i ∷ []
+alloc_numbers None = 8 ∷ []
 
 -- the map with what was allocated used
-abbrev pub used_by : List ℕ → Alloc → List ℕ
-used_by m (Page i) = set m i used
-used_by m Full = m
+abbrev pub used_by : List ℕ → Option ℕ → List ℕ
+used_by m (Some i) = set m i used
+used_by m None = m
 
 -- an allocation: its answer in numbers, and the map that it leaves
 pub record Allocation : Type 0 where
   pub answer : List ℕ
   pub left : List ℕ
 
-abbrev pub leaves : Alloc → List ℕ → Allocation
+abbrev pub leaves : Option ℕ → List ℕ → Allocation
 leaves a m = record { answer = alloc_numbers a; left = m }
 
 unfoldable pub allocated : List ℕ → ℕ → ℕ → Allocation

@@ -2,9 +2,11 @@
 // the map does not have is never free, and marking it changes nothing.
 #![tactic(auto)]
 
-ghost use Rattle.std.specs.Prelude.{◌≡◌, min, ◌≤◌, length, take, set};
-ghost use Rattle.map.specs.Map.{free, used, held, first_free, alloc_of, alloc_numbers, leaves, allocated, beyond, is_free, free_count, unheld, released, cleared};
+ghost use Rattle.std.specs.Prelude.{◌≡◌, ◌<◌, ◌≤◌, length, take, set, IfSome};
+ghost use Rattle.std.specs.Option.{unwrap_or};
+ghost use Rattle.map.specs.Map.{free, used, held, first_free, alloc_of, leaves, allocated, beyond, free_count, released, cleared};
 
+// A page's byte. The marks are bytes and no enum, since C lends the map, and it may hold any byte.
 pub const FREE: u8 = 0;
 
 pub const USED: u8 = 1;
@@ -13,75 +15,44 @@ pub const HELD: u8 = 2;
 
 pub const OUTSIDE: u8 = 3;
 
-#[derive(Clone, Copy)]
-pub enum Alloc {
-    Page(usize),
-    Full,
-}
-
-fn least(a: usize, b: usize) -> usize
-    ensures { result ≡ min a b }
-{
-    if a <= b { a } else { b }
-}
-
 // ---- allocation
 
-// The index of the first free page, or the length.
-fn first_free(m: &[u8]) -> usize
-    ensures { result ≡ first_free m.now }
+// The index of the first free page.
+fn first_free(m: &[u8]) -> Option<usize>
+    ensures index { unwrap_or result (length m.now) ≡ first_free m.now }
+    ensures bound { IfSome result (λ i. i < length m.now) }
 {
-    let mut i = 0;
-    while i < m.len() {
-        if m[i] == FREE {
-            return i;
-        }
-        i += 1;
-    }
-    i
+    m.iter().position(|page| *page == FREE)
 }
 
 // The first free id below count from the cursor upward and round.
-pub fn find_free(m: &[u8], count: usize, cursor: usize) -> Alloc
-    ensures { alloc_numbers result ≡ alloc_numbers (alloc_of m.now count cursor) }
+pub fn find_free(m: &[u8], count: usize, cursor: usize) -> Option<usize>
+    ensures { result ≡ alloc_of m.now count cursor }
 {
-    let n = least(count, m.len());
-    let c = least(cursor, n);
-    let a = first_free(&m[c..n]);
-    if a < n - c {
-        return Alloc::Page(c + a);
+    let n = count.min(m.len());
+    let (low, up) = m[..n].split_at(cursor.min(n));
+    match first_free(up) {
+        Some(i) => Some(low.len() + i),
+        None => first_free(low),
     }
-    let b = first_free(&m[0..c]);
-    if b < c {
-        return Alloc::Page(b);
-    }
-    Alloc::Full
 }
 
 // The same, and the page is used from now on. The cursor is then `beyond_page` of it.
-pub fn allocate(m: &mut [u8], count: usize, cursor: usize) -> Alloc
+pub fn allocate(m: &mut [u8], count: usize, cursor: usize) -> Option<usize>
     ensures { leaves result m.new ≡ allocated m.old count cursor }
 {
-    let a = find_free(m, count, cursor);
-    match a {
-        Alloc::Page(i) => {
-            use_page(m, i);
-            a
-        }
-        Alloc::Full => a,
+    let found = find_free(m, count, cursor);
+    if let Some(i) = found {
+        use_page(m, i);
     }
+    found
 }
 
 // One beyond page i, round.
 pub fn beyond_page(i: usize, count: usize) -> usize
     ensures { result ≡ beyond count i }
 {
-    if i < count {
-        if i + 1 < count {
-            return i + 1;
-        }
-    }
-    0
+    if i < count && i + 1 < count { i + 1 } else { 0 }
 }
 
 // ---- marks
@@ -118,7 +89,7 @@ pub fn free(m: &mut [u8], i: usize)
 pub fn count_free(m: &[u8], count: usize) -> usize
     ensures { result ≡ free_count (take count m.now) }
 {
-    let n = least(count, m.len());
+    let n = count.min(m.len());
     count_all(&m[..n])
 }
 
@@ -126,13 +97,12 @@ pub fn count_free(m: &[u8], count: usize) -> usize
 fn count_all(m: &[u8]) -> usize
     ensures { result ≡ free_count m.now }
 {
-    let mut n = 0;
-    let mut rest = m;
-    while 128 <= rest.len() {
-        n += count_few(&rest[0..128]) as usize;
-        rest = &rest[128..];
+    let whole = m.chunks_exact(128);
+    let mut n = usize::from(count_few(whole.remainder()));
+    for few in whole {
+        n += usize::from(count_few(few));
     }
-    n + (count_few(rest) as usize)
+    n
 }
 
 fn count_few(m: &[u8]) -> u8
@@ -140,18 +110,10 @@ fn count_few(m: &[u8]) -> u8
     ensures { result ≡ free_count m.now }
 {
     let mut n = 0u8;
-    let mut i = 0;
-    while i < m.len() {
-        n += free_one(m[i]);
-        i += 1;
+    for page in m {
+        n += u8::from(*page == FREE);
     }
     n
-}
-
-fn free_one(x: u8) -> u8
-    ensures { result ≡ is_free x }
-{
-    if x == FREE { 1 } else { 0 }
 }
 
 // ---- the whole map
@@ -160,24 +122,16 @@ fn free_one(x: u8) -> u8
 pub fn release(m: &mut [u8])
     ensures { m.new ≡ released m.old }
 {
-    let mut i = 0;
-    while i < m.len() {
-        m[i] = unheld_of(m[i]);
-        i += 1;
+    for page in m.iter_mut() {
+        *page = if *page == HELD { FREE } else { *page };
     }
-}
-
-fn unheld_of(x: u8) -> u8
-    ensures { result ≡ unheld x }
-{
-    if x == HELD { FREE } else { x }
 }
 
 // Pages below count are free, the others outside.
 pub fn clear(m: &mut [u8], count: usize)
     ensures { m.new ≡ cleared (length m.old) count }
 {
-    let k = least(count, m.len());
-    runs::fill(&mut m[0..k], FREE);
-    runs::fill(&mut m[k..], OUTSIDE);
+    let (inside, outside) = m.split_at_mut(count.min(m.len()));
+    inside.fill(FREE);
+    outside.fill(OUTSIDE);
 }

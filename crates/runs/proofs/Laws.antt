@@ -4,13 +4,14 @@
 use Prim.Native.Nat.{ℕ, zero, suc, ◌+◌, ◌-◌, ◌*◌, ◌/◌, ◌%◌, ◌≤◌, ◌<◌}
 use mathlib.Core.Path.{◌≡◌, refl, sym, ap, ap₂, ◌∙◌}
 use mathlib.Core.List.{List, [], ◌∷◌, ◌++◌, append-nil, append_assoc}
-use mathlib.Core.Bool.{Bool, true, false, cond}
-use native.Mathlib.Nat.{le_of_suc-le-suc, not-suc-le-zero, zero-add, suc-add, add_assoc, sub-zero, zero-sub, suc-sub-suc, div-div-eq-div-mul}
+use mathlib.Core.Bool.{Bool, true, false, cond, ◌&&◌}
+use Rattle.std.specs.List.{list_all}
+use native.Mathlib.Nat.{add-zero, le_of_suc-le-suc, not-suc-le-zero, zero-add, suc-add, add_assoc, sub-zero, zero-sub, suc-sub-suc, div-div-eq-div-mul}
 use native.Mathlib.Numerals.{add-one}
 use native.Mathlib.Omega.{arith}
 use lib.ListN.{length, take, drop, get_or, set, replicate, length-append, length-take, length-drop, drop_of_length-le, get_or-eq_default}
 use lib.Dec.{eqb}
-use lib.Seq.{take_all, length-take-le, take-length, take-nil, take-take, drop-drop, take-add, drop_at, take-append-le, take-append-add, drop-cons, get_or-take}
+use lib.Seq.{get_or-drop, take_all, length-take-le, take-length, take-nil, take-take, drop-drop, take-add, drop_at, take-append-le, take-append-add, drop-cons, get_or-take}
 use borrow.Rule.Slice.PartMut.{put_mid}
 use borrow.Author.Tests.{le-leb, lt-leb}
 use Rattle.runs.specs.Runs.{part, part_of, splice, placed, le16, le32, all_erased}
@@ -28,25 +29,6 @@ pub get_d_same : (n i v : ℕ) → get_or (replicate n v) i v ≡ v
 get_d_same zero i v = refl
 get_d_same (suc n) zero v = refl
 get_d_same (suc n) (suc i) v = get_d_same n i v
-
--- ---- a loop that copies
-
-copy_suc : (s d : List ℕ) (i : ℕ) → i < length s → i < length d → set (take i s ++ drop i d) i (get_or s i 0) ≡ take (suc i) s ++ drop (suc i) d
-copy_suc [] d i h k = absurd (not-suc-le-zero h)
-copy_suc (x ∷ s) [] i h k = absurd (not-suc-le-zero k)
-copy_suc (x ∷ s) (y ∷ d) zero h k = refl
-copy_suc (x ∷ s) (y ∷ d) (suc i) h k = ap (λ (l : List ℕ). x ∷ l) (copy_suc s d i (le_of_suc-le-suc h) (le_of_suc-le-suc k))
-
--- a store of s's byte at i takes a copy of i bytes to one of i + 1
-pub copy_more : (s d : List ℕ) (i : ℕ) → i < length s → i < length d → set (take i s ++ drop i d) i (get_or s i 0) ≡ take (i + 1) s ++ drop (i + 1) d
-copy_more s d i h k = rw add-one (copy_suc s d i h k)
-
--- a copy of all
-pub copy_all : (s d : List ℕ) (i : ℕ) → i ≤ length s → length s ≤ i → length d ≡ length s → take i s ++ drop i d ≡ s
-copy_all s d i h k e =
-    let a : i ≡ length s = omega arith in
-    let b : length d ≤ i = omega arith in
-    rw (drop_of_length-le d b, a, take-length s) (append-nil s)
 
 -- ---- parts and splices
 
@@ -206,6 +188,18 @@ le32_past l at h =
     let k : length l ≤ at + 2 = omega arith in
     rw (le16_past l at h, le16_past l (at + 2) k)
 
+-- a field of what is left from some way on
+pub le16_drop : (l : List ℕ) (a i : ℕ) → le16 (drop a l) i ≡ le16 l (a + i)
+unfolding le16
+le16_drop l a i = rw (get_or-drop a l i 0, get_or-drop a l (i + 1) 0, add_assoc a i 1)
+
+pub le16_here : (l : List ℕ) (a : ℕ) → le16 (drop a l) 0 ≡ le16 l a
+le16_here l a = rw (le16_drop l a 0, add-zero a)
+
+pub le32_here : (l : List ℕ) (a : ℕ) → le32 (drop a l) 0 ≡ le32 l a
+unfolding le32
+le32_here l a = rw (le16_here l a, le16_drop l a 2)
+
 -- a field inside what is taken
 pub le16_take : (n : ℕ) (l : List ℕ) (at : ℕ) → at + 1 < n → le16 (take n l) at ≡ le16 l at
 unfolding le16
@@ -227,5 +221,11 @@ placed_out l at r h = simp (lt-leb _ _ h)
 
 -- ---- erased runs
 
-pub erased_more : (bs : List ℕ) (i : ℕ) → i < length bs → all_erased (drop i bs) ≡ cond (eqb (get_or bs i 0) 255) (all_erased (drop (i + 1) bs)) false
-erased_more bs i h = rw (add-one, drop-cons bs i 0 h)
+-- the test of each byte
+pub erased_all : (bs : List ℕ) → list_all (λ x. eqb x 255) bs ≡ all_erased bs
+erased_all [] = refl
+erased_all (x ∷ bs) = by (eqb x 255) (erased_all bs)
+  where
+    by : (b : Bool) → list_all (λ x. eqb x 255) bs ≡ all_erased bs → (b && list_all (λ x. eqb x 255) bs) ≡ cond b (all_erased bs) false
+    by true ih = ih
+    by false ih = refl

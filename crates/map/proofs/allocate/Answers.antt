@@ -1,17 +1,14 @@
 -- `map::allocate` meets its contract.
 -- Assumes nothing.
-use Rattle.map.proofs.Laws.{alloc_same}
 use Rattle.map.proofs.Turns.{takes_page, takes_none}
-use borrow.Author.Rules.{rules}
 use Rattle.map.proofs.allocate.Goals as goal
 
-pub returns-in-Page : goal.returns-in-Page
-returns-in-Page c =
+pub returns-in-Some : goal.returns-in-Some
+returns-in-Some c =
     let a = c.args in
-    takes_page a.m.now _ a.count a.cursor _ _ (alloc_same _ _ c.find_free-a.ensures)
-    c.in-Page.is c.use_page.ensures
+    takes_page a.m.now _ a.count a.cursor _ _ c.find_free-found.ensures c.in-Some.is c.use_page.ensures
 
-pub returns-in-Full : goal.returns-in-Full
-returns-in-Full c =
+pub returns-in_default : goal.returns-in_default
+returns-in_default c =
     let a = c.args in
-    takes_none a.m.now a.count a.cursor c.find_free-a.result (alloc_same _ _ c.find_free-a.ensures) (search rules)
+    takes_none a.m.now a.count a.cursor c.find_free-found.result c.find_free-found.ensures c.in_default.is

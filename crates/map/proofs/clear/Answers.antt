@@ -1,25 +1,15 @@
--- `map::clear` meets its contract: the two parts are filled one after the other.
+-- `map::clear` meets its contract.
 -- Assumes nothing.
-use Rattle.map.proofs.Turns.{two_fills, second_length}
+use Rattle.std.proofs.Common.{rules, ◌≡◌, ℕ, List, length, replicate, ◌++◌, ◌-◌, min}
+use mathlib.Core.Path.{ap₂}
 use Rattle.map.specs.Map.{cleared}
-use lib.ListN.{length, take, replicate, length-take, length-replicate}
-use native.Mathlib.Omega.{arith}
-use Prim.Native.Nat.{ℕ, ◌-◌, ◌≤◌}
-use mathlib.Core.List.{List, ◌++◌}
-use mathlib.Core.Path.{◌≡◌, ap, ap₂, ◌∙◌}
 use Rattle.map.proofs.clear.Goals as goal
 
 pub returns : goal.returns
 unfolding cleared
 returns c =
-    let m = c.args.m.now in
-    let k = c.least-k.result in
-    let f = c.fill.new.d in
-    let g = c.fill-2.new.d in
-    let h : k ≤ length m = omega (arith, c.least-k.ensures) in
-    let n : length (take (k - 0) m) ≡ k = simp length-take (omega arith) in
-    let e : f ≡ replicate k 0 = c.fill.ensures ∙ ap (λ (i : ℕ). replicate i 0) n in
-    let lf : length f ≡ k = ap length e ∙ length-replicate k 0 in
-    two_fills m f g k h lf
-    ∙ ap₂ (λ (x y : List ℕ). x ++ y) e (c.fill-2.ensures ∙ ap (λ (i : ℕ). replicate i 3) (second_length m f k h lf))
-    ∙ rw c.least-k.ensures
+    let a = c.args in
+    let s = c.split_at_mut-inside in
+    let i : c.fill.new.self ≡ replicate (min a.count (length a.m.now)) 0 = search rules in
+    let o : c.fill-2.new.self ≡ replicate (length a.m.now - min a.count (length a.m.now)) 3 = search rules in
+    ap₂ (λ (x y : List ℕ). x ++ y) i o

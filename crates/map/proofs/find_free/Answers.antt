@@ -1,34 +1,20 @@
 -- `map::find_free` meets its contract.
 -- Assumes nothing.
-use Rattle.map.proofs.Turns.{find_up, find_low, find_full}
-use Prim.Native.Nat.{ℕ}
-use mathlib.Core.Path.{ap, ◌∙◌}
-use native.Mathlib.Nat.{sub-zero}
-use lib.ListN.{take}
-use Rattle.map.specs.Map.{first_free, alloc_numbers}
+use Rattle.map.proofs.Turns.{upper, lower, find_up, find_low}
+use mathlib.Core.Path.{◌∙◌}
 use Rattle.map.proofs.find_free.Goals as goal
 
-pub returns-then-a-n : goal.returns-then-a-n
-returns-then-a-n c =
+pub returns-in-Some : goal.returns-in-Some
+returns-in-Some c =
     let a = c.args in
-    ap alloc_numbers
-    (find_up a.m.now a.count a.cursor c.least-n.result c.least-c.result c.first_free-a.result
-    c.least-n.ensures c.least-c.ensures c.first_free-a.ensures c.if-a-n.true)
+    let s = c.split_at in
+    find_up a.m.now a.count a.cursor s.result.0.now s.result.1.now (s.ensures.front ∙ lower a.m.now a.count a.cursor c.min-n.result c.min.result c.min-n.ensures c.min.ensures)
+    (s.ensures.back ∙ upper a.m.now a.count a.cursor c.min-n.result c.min.result c.min-n.ensures c.min.ensures) c.in-Some.i c.in-Some.ensures.index c.in-Some.ensures.bound
 
-pub returns-then-b-c : goal.returns-then-b-c
-returns-then-b-c c =
+pub returns-in-None : goal.returns-in-None
+returns-in-None c =
     let a = c.args in
-    ap alloc_numbers
-    (find_low a.m.now a.count a.cursor c.least-n.result c.least-c.result c.first_free-a.result
-    c.least-n.ensures c.least-c.ensures c.first_free-a.ensures c.first_free-b.result c.if-a-n.false
-    (c.first_free-b.ensures ∙ ap (λ (k : ℕ). first_free (take k a.m.now)) (sub-zero c.least-c.result))
-    c.if-b-c.true)
-
-pub returns : goal.returns
-returns c =
-    let a = c.args in
-    ap alloc_numbers
-    (find_full a.m.now a.count a.cursor c.least-n.result c.least-c.result c.first_free-a.result
-    c.least-n.ensures c.least-c.ensures c.first_free-a.ensures c.first_free-b.result c.if-a-n.false
-    (c.first_free-b.ensures ∙ ap (λ (k : ℕ). first_free (take k a.m.now)) (sub-zero c.least-c.result))
-    c.if-b-c.false)
+    let s = c.split_at in
+    let f = c.first_free-in-None in
+    find_low a.m.now a.count a.cursor s.result.0.now s.result.1.now (s.ensures.front ∙ lower a.m.now a.count a.cursor c.min-n.result c.min.result c.min-n.ensures c.min.ensures)
+    (s.ensures.back ∙ upper a.m.now a.count a.cursor c.min-n.result c.min.result c.min-n.ensures c.min.ensures) f.result c.in-None.ensures.index f.ensures.index f.ensures.bound

@@ -1,38 +1,37 @@
 -- `map::release` meets its contract.
 -- Assumes nothing.
-use Rattle.map.proofs.Turns.{at_seam}
+use Rattle.map.proofs.Turns.{at_seam, write_more, write_all}
 use Rattle.map.specs.Map.{unheld, released}
-use Rattle.runs.proofs.Laws.{copy_more, copy_all}
-use lib.ListN.{length, get_or, length-set, length-map, get_or-map}
+use borrow.Author.Tests.{eq-eqb, ne_eqb}
+use lib.ListN.{length, get_or, length-map, get_or-map}
 use native.Mathlib.Omega.{arith}
 use mathlib.Core.List.{List, map}
-use mathlib.Core.Path.{◌≡◌, refl, sym, ap, ◌∙◌}
-use Prim.Native.Nat.{ℕ, ◌<◌}
+use mathlib.Core.Path.{◌≡◌, sym, ap, ◌∙◌}
+use Prim.Native.Nat.{ℕ, ◌<◌, ◌≤◌}
 use Rattle.map.proofs.release.Goals as goal
+use Rattle.map.proofs.release.Goals.{then-page-eq-HELD, else-page-eq-HELD}
 
-pub loop-i-init : goal.loop-i-init
-loop-i-init c = (omega arith, refl, refl)
-
-pub loop-i-preserved : goal.loop-i-preserved
-loop-i-preserved c =
+pub loop-page-preserved : goal.loop-page-preserved
+loop-page-preserved c =
     let m = c.args.m.now in
-    let l = c.loop-i in
-    let k : l.i < length m = omega arith in
-    let f : length (map unheld m) ≡ length m = length-map m unheld in
-    let g : l.i < length (map unheld m) = omega arith in
-    let e : c.unheld_of.result ≡ get_or (map unheld m) l.i 0 =
-    c.unheld_of.ensures
-    ∙ ap unheld (ap (λ (x : List ℕ). get_or x l.i 0) l.invariant.1 ∙ at_seam (map unheld m) m l.i (omega arith) k)
-    ∙ sym (get_or-map unheld m l.i 0) in
-    (omega arith, rw (e, l.invariant.1) (copy_more (map unheld m) m l.i g k), simp length-set l.invariant.2)
-
-pub shape_of-m : goal.shape_of-m
-shape_of-m c = c.loop-i.invariant.2
+    let l = c.loop-page in
+    let i = l.page-index in
+    let k : i < length m = omega arith in
+    let f = length-map m unheld in
+    let g : i < length (map unheld m) = omega arith in
+    let u : c.if-page-eq-HELD.page ≡ unheld (get_or l.m i 0) = elim c.if-page-eq-HELD.branch [
+      | then-page-eq-HELD w ↦ rw (w.page-is, eq-eqb _ _ w.if-page-eq-HELD.true)
+      | else-page-eq-HELD w ↦ rw (w.page-is, ne_eqb _ _ w.if-page-eq-HELD.false)
+    ] in
+    let s = ap (λ (x : List ℕ). get_or x i 0) l.invariant ∙ at_seam (map unheld m) m i (omega arith) k in
+    let e : c.if-page-eq-HELD.page ≡ get_or (map unheld m) i 0 = u ∙ ap unheld s ∙ sym (get_or-map unheld m i 0) in
+    rw (e, l.invariant) (write_more (map unheld m) m i g k)
 
 pub returns : goal.returns
 unfolding released
 returns c =
     let m = c.args.m.now in
-    let l = c.loop-i in
-    let f : length (map unheld m) ≡ length m = length-map m unheld in
-    l.invariant.1 ∙ copy_all (map unheld m) m l.i (omega arith) (omega arith) (sym f)
+    let l = c.loop-page in
+    let f = length-map m unheld in
+    let a : l.page-index ≤ length m = omega (arith, l.auto.page-index-end) in
+    l.invariant ∙ write_all (map unheld m) m l.page-index (omega arith) (omega arith) (sym f)

@@ -1,14 +1,10 @@
--- `map::release` meets its contract.
+-- `map::release` meets its contract. The invariant: the bytes before the page are released, the others as they were.
 -- Assumes nothing.
 use Rattle.map.specs.Map.{unheld}
-use lib.ListN.{length, take, drop}
+use lib.ListN.{take, drop}
 use mathlib.Core.List.{◌++◌, map}
 use mathlib.Core.Path.{◌≡◌}
-use Prim.Native.Nat.{◌≤◌, ◌-◌}
 use Rattle.map.proofs.release.Given as goal
 
-abbrev pub invariant-loop-i : goal.invariant-loop-i
-invariant-loop-i l = (l.i ≤ length l.initial.m) × (l.m ≡ take l.i (map unheld l.initial.m) ++ drop l.i l.initial.m) × (length l.m ≡ length l.initial.m)
-
-abbrev pub decreases-loop-i : goal.decreases-loop-i
-decreases-loop-i l = length l.initial.m - l.i
+abbrev pub invariant-loop-page : goal.invariant-loop-page
+invariant-loop-page l = l.m ≡ take l.page-index (map unheld l.initial.m) ++ drop l.page-index l.initial.m
