@@ -2,9 +2,11 @@
 // entries. Every function is total: a page that the image has not has an empty log, and a store outside changes nothing.
 #![tactic(auto)]
 
-ghost use Rattle.std.specs.Prelude.{◌≡◌, true, cond, ◌&&◌, ◌*◌, ◌≤◌, ◌<◌, length};
+ghost use Rattle.std.specs.Prelude.{◌≡◌, true, cond, ◌&&◌, ◌*◌, ◌/◌, ◌≤◌, ◌<◌, length};
+ghost use Rattle.std.specs.Iterator.{at_most};
 ghost use Rattle.page.specs.Store.{stored, ran};
-ghost use Rattle.metalog.specs.Log.{entry_size, good_pair, batch_at, entry_of, entries, area_of, log_of, end_of, end_numbers, log_end, rest_erased, fits, sound, put, no_files, add, adds, fresh, replayed, replay_of};
+ghost use Rattle.metalog.specs.Log.{entry_size, good_pair, batch_at, entry_of, entries, area_of, log_of, end_of, log_end, rest_erased, fits, sound, put, no_files, add, adds, good, fresh, replayed, replay_of, taken};
+ghost use Rattle.metalog.specs.Batches.{FirstBatch};
 ghost use Rattle.metalog.specs.Batch.{entry_bytes, pair_bytes, entry_for, chosen, marked, batch_stores, new_meta_stores};
 ghost use Rattle.metalog.specs.Run.{added, added_if, run_of, run_stores};
 
@@ -32,13 +34,6 @@ enum Batch {
     Bad,
 }
 
-// Where the log ends, counted from its beginning.
-#[derive(Clone, Copy)]
-pub enum LogEnd {
-    At(usize),
-    Damaged,
-}
-
 // The eight files as entries say: last page, first_seq, flags.
 #[derive(Clone, Copy)]
 pub struct Files {
@@ -47,11 +42,33 @@ pub struct Files {
     pub flags: [u8; 8],
 }
 
-// The files as the log left them, and whether it reads and every entry is sound.
-#[derive(Clone, Copy)]
-pub struct Replay {
-    pub ok: bool,
-    pub files: Files,
+// The batches of a log in order: the bytes of each one's entries, or None for a bad one, behind which nothing is read.
+#[derive(Drop)]
+struct Batches<'a> {
+    rest: &'a [u8],
+}
+
+impl<'a> Iterator for Batches<'a> {
+    type Item = Option<&'a [u8]>;
+
+    ghost next_gives = { FirstBatch };
+
+    ghost remaining = { λ s. at_most (length s.rest.now) };
+
+    fn next(&mut self) -> Option<Option<&'a [u8]>> {
+        match batch_at(self.rest) {
+            Batch::End => None,
+            Batch::Bad => {
+                self.rest = &[];
+                Some(None)
+            }
+            Batch::Entries(n) => {
+                let (batch, rest) = self.rest.split_at(PAIR_SIZE + ENTRY_SIZE * n);
+                self.rest = rest;
+                Some(Some(&batch[PAIR_SIZE..]))
+            }
+        }
+    }
 }
 
 // ---- reading
@@ -106,32 +123,19 @@ fn area(image: &[u8], p: usize) -> &[u8]
     page::area_at(image, p, LOG_START, LOG_SIZE)
 }
 
-fn end_of(bs: &[u8]) -> LogEnd
+fn end_of(bs: &[u8]) -> Option<usize>
     ensures { result ≡ end_of (log_of bs.now) }
 {
-    let mut at = 0;
-    let mut rest = bs;
-    loop {
-        let b = batch_at(rest);
-        match b {
-            Batch::End => {
-                return LogEnd::At(at);
-            }
-            Batch::Bad => {
-                return LogEnd::Damaged;
-            }
-            Batch::Entries(n) => {
-                let size = PAIR_SIZE + ENTRY_SIZE * n;
-                at = at + size;
-                rest = &rest[size..];
-            }
-        }
+    let mut end = 0;
+    for batch in (Batches { rest: bs }) {
+        end += PAIR_SIZE + batch?.len();
     }
+    Some(end)
 }
 
-// Where the log of page p ends, or that it cannot be read.
-pub fn log_end(image: &[u8], p: usize) -> LogEnd
-    ensures { end_numbers result ≡ end_numbers (log_end image.now p) }
+// Where the log of page p ends, counted from its beginning, if it can be read.
+pub fn log_end(image: &[u8], p: usize) -> Option<usize>
+    ensures { result ≡ log_end image.now p }
 {
     end_of(area(image, p))
 }
@@ -175,12 +179,6 @@ fn is_sound(e: Entry, count: usize) -> bool
     (e.last as usize) < count
 }
 
-fn both(a: bool, b: bool) -> bool
-    ensures { result ≡ (a && b) }
-{
-    if a { b } else { false }
-}
-
 fn no_files() -> Files
     ensures { result ≡ no_files }
 {
@@ -189,13 +187,6 @@ fn no_files() -> Files
         first: [0; 8],
         flags: [0; 8],
     }
-}
-
-fn fresh(ok: bool) -> Replay
-    ensures { result ≡ fresh ok }
-{
-    let files = no_files();
-    Replay { ok, files }
 }
 
 fn put_entry(f: Files, e: Entry) -> Files
@@ -212,57 +203,41 @@ fn put_entry(f: Files, e: Entry) -> Files
     g
 }
 
-fn add_one(r: Replay, e: Entry, count: usize) -> Replay
-    ensures { result ≡ add count r e }
+// The files with the entry put in, if mount takes it.
+fn add_one(files: Files, e: Entry, count: usize) -> Option<Files>
+    ensures { result ≡ taken (add count (good files) e) }
 {
-    let f = r.files;
-    let files = put_entry(f, e);
-    let ok = both(r.ok, is_sound(e, count));
-    Replay { ok, files }
-}
-
-// The n entries of bs in order.
-fn add_all(r: Replay, bs: &[u8], n: usize, count: usize) -> Replay
-    requires { entry_size * n ≤ length bs.now }
-    ensures { result ≡ adds count r (entries n bs.now) }
-{
-    let mut s = r;
-    let mut rest = bs;
-    let mut k = n;
-    while 0 < k {
-        s = add_one(s, entry_of(rest), count);
-        rest = &rest[ENTRY_SIZE..];
-        k = k - 1;
-    }
-    s
-}
-
-fn replay_log(bs: &[u8], count: usize) -> Replay
-    ensures { result ≡ replayed count (fresh true) (log_of bs.now) }
-{
-    let mut s = fresh(true);
-    let mut rest = bs;
-    loop {
-        let b = batch_at(rest);
-        match b {
-            Batch::End => {
-                return s;
-            }
-            Batch::Bad => {
-                return fresh(false);
-            }
-            Batch::Entries(n) => {
-                let size = PAIR_SIZE + ENTRY_SIZE * n;
-                s = add_all(s, &rest[PAIR_SIZE..size], n, count);
-                rest = &rest[size..];
-            }
-        }
+    if is_sound(e, count) {
+        Some(put_entry(files, e))
+    } else {
+        None
     }
 }
 
-// The log of page p replayed, for an image of count pages.
-pub fn replay_at(image: &[u8], p: usize, count: usize) -> Replay
-    ensures { result ≡ replay_of count image.now p }
+// The files with the entries of a batch put in, in order.
+fn add_all(files: Files, batch: &[u8], count: usize) -> Option<Files>
+    ensures { result ≡ taken (adds count (good files) (entries (length batch.now / entry_size) batch.now)) }
+{
+    let mut files = files;
+    for entry in batch.chunks_exact(ENTRY_SIZE) {
+        files = add_one(files, entry_of(entry), count)?;
+    }
+    Some(files)
+}
+
+fn replay_log(bs: &[u8], count: usize) -> Option<Files>
+    ensures { result ≡ taken (replayed count (fresh true) (log_of bs.now)) }
+{
+    let mut files = no_files();
+    for batch in (Batches { rest: bs }) {
+        files = add_all(files, batch?, count)?;
+    }
+    Some(files)
+}
+
+// The files that the log of page p leaves, for an image of count pages, if it reads and mount takes every entry.
+pub fn replay_at(image: &[u8], p: usize, count: usize) -> Option<Files>
+    ensures { result ≡ taken (replay_of count image.now p) }
 {
     replay_log(area(image, p), count)
 }

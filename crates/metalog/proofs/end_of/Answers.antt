@@ -1,62 +1,33 @@
 -- `metalog::end_of` meets its contract.
 -- Assumes nothing.
-use Rattle.metalog.proofs.Laws.{Room, batch_room, further, further_none, end_more, end_end, end_bad}
-use Rattle.metalog.specs.Log.{log_of, end_of}
-use Rattle.runs.proofs.Laws.{rest_drop}
-use lib.ListN.{length, take, drop, length-take, length-drop}
+use Rattle.metalog.proofs.Laws.{end_first, end_end, end_bad, first_room}
+use Rattle.metalog.specs.Batches.{IsFirst}
 use native.Mathlib.Omega.{arith}
-use mathlib.Core.List.{List}
-use mathlib.Core.Path.{sym, ap, ◌∙◌}
-use Prim.Native.Nat.{ℕ, ◌≤◌, ◌+◌, ◌-◌, ◌*◌}
+use mathlib.Core.Path.{sym, ◌∙◌}
 use Rattle.metalog.proofs.end_of.Goals as goal
-use Rattle.metalog.proofs.end_of.Goals.{In-Entries}
+use Rattle.metalog.proofs.end_of.Goals.{In_ok-end}
 
--- a batch's entries are there
-room : (c : In-Entries) → Room c.in-Entries.n (length c.loop-n.rest.now)
-room c = batch_room c.loop-n.rest.now c.in-Entries.n (sym c.batch_at-b.ensures ∙ c.in-Entries.is)
+-- what the batch is of the rest
+first : (c : In_ok-end) → IsFirst c.loop-batch.batch-iterator.rest.now c.in_ok-end.field-0.now c.next.new.self.rest.now
+first c = rw c.in_ok-end.was at c.in-Some.ensures.steps
 
-pub loop-n-init : goal.loop-n-init
-loop-n-init c = (omega arith, sym (further_none (end_of (log_of c.args.bs.now))))
+pub returns-in_err-end : goal.returns-in_err-end
+returns-in_err-end c =
+    let o = c.loop-batch in
+    c.from_residual.ensures
+    ∙ sym (o.invariant.3 ∙ end_bad o.end o.batch-iterator.rest.now (rw c.in_err-end.was at c.in-Some.ensures.steps))
 
-pub returns-in-End : goal.returns-in-End
-returns-in-End c =
-    let o = c.loop-n in
-    sym (o.invariant.1 ∙ end_end o.at o.rest.now (sym c.batch_at-b.ensures ∙ c.in-End.is))
+pub overflow_add-end-in-loop-batch : goal.overflow_add-end-in-loop-batch
+overflow_add-end-in-loop-batch c =
+    let r = first_room (first c) in omega (arith, c.loop-batch.invariant.2)
 
-pub returns-in-Bad : goal.returns-in-Bad
-returns-in-Bad c =
-    let o = c.loop-n in
-    sym (o.invariant.1 ∙ end_bad o.at o.rest.now (sym c.batch_at-b.ensures ∙ c.in-Bad.is))
+pub loop-batch-preserved : goal.loop-batch-preserved
+loop-batch-preserved c =
+    let o = c.loop-batch in
+    let f = first c in
+    (tt, tt, omega (arith, o.invariant.2, first_room f), o.invariant.3 ∙ end_first f o.end)
 
-pub overflow_mul-size : goal.overflow_mul-size
-overflow_mul-size c = let r = room c in omega arith
-
-pub overflow_add-size : goal.overflow_add-size
-overflow_add-size c = let r = room c in omega arith
-
-pub overflow_add-at : goal.overflow_add-at
-overflow_add-at c = let r = room c in omega (arith, c.loop-n.invariant.0)
-
-pub slice_bounds-rest-count : goal.slice_bounds-rest-count
-slice_bounds-rest-count c = let r = room c in omega arith
-
-pub slice_bounds-rest-start : goal.slice_bounds-rest-start
-slice_bounds-rest-start c = let r = room c in omega arith
-
-pub loop-n-smaller : goal.loop-n-smaller
-loop-n-smaller c = let r = room (goal.at.loop-n-smaller c).In-Entries in simp (length-take, length-drop) (omega arith)
-
-pub loop-n-preserved : goal.loop-n-preserved
-loop-n-preserved c =
-    let r = room (goal.at.loop-n-preserved c).In-Entries in
-    let o = c.loop-n in
-    let a = c.args in
-    let n = c.in-Entries.n in
-    let l = o.rest.now in
-    let t = take (length l - (4 + 8 * n)) (drop (4 + 8 * n) l) in
-    let h : o.at + (4 + 8 * n) + length t ≤ length a.bs.now = simp (length-take, length-drop) (omega (arith, o.invariant.0)) in (
-      h,
-      o.invariant.1
-          ∙ end_more o.at l n (sym c.batch_at-b.ensures ∙ c.in-Entries.is)
-          ∙ ap (λ (y : List ℕ). further (o.at + (4 + 8 * n)) (end_of (log_of y))) (sym (rest_drop (4 + 8 * n) l)),
-    )
+pub returns : goal.returns
+returns c =
+    let o = c.loop-batch in
+    sym (o.invariant.3 ∙ end_end o.end o.batch-iterator.rest.now c.in-None.ensures.steps)

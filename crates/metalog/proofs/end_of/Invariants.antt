@@ -7,8 +7,9 @@ use mathlib.Core.Path.{◌≡◌}
 use Prim.Native.Nat.{◌≤◌, ◌+◌}
 use Rattle.metalog.proofs.end_of.Given as goal
 
-abbrev pub invariant-loop-n : goal.invariant-loop-n
-invariant-loop-n l = (l.at + length l.rest ≤ length l.bs) × (end_of (log_of l.bs) ≡ further l.at (end_of (log_of l.rest)))
-
-abbrev pub decreases-loop-n : goal.decreases-loop-n
-decreases-loop-n l = length l.rest
+abbrev pub invariant-loop-batch : goal.invariant-loop-batch
+invariant-loop-batch l =
+    (goal.iterator-loop-batch).can_next l.batch-iterator
+    × (goal.iterator-loop-batch).is_finite l.batch-iterator
+    × (l.end + length l.batch-iterator.rest.now ≤ length l.bs)
+    × (end_of (log_of l.bs) ≡ further l.end (end_of (log_of l.batch-iterator.rest.now)))

@@ -1,12 +1,12 @@
 -- `metalog::replay_log` meets its contract.
 -- Assumes nothing.
-use Rattle.metalog.specs.Log.{log_of, replayed}
-use lib.ListN.{length}
+use Rattle.metalog.specs.Log.{log_of, good, fresh, replayed, taken}
+use mathlib.Core.Bool.{true}
 use mathlib.Core.Path.{◌≡◌}
 use Rattle.metalog.proofs.replay_log.Given as goal
 
-abbrev pub invariant-loop-s : goal.invariant-loop-s
-invariant-loop-s l = replayed l.count l.initial.s (log_of l.bs) ≡ replayed l.count l.s (log_of l.rest)
-
-abbrev pub decreases-loop-s : goal.decreases-loop-s
-decreases-loop-s l = length l.rest
+abbrev pub invariant-loop-batch : goal.invariant-loop-batch
+invariant-loop-batch l =
+    (goal.iterator-loop-batch).can_next l.batch-iterator
+    × (goal.iterator-loop-batch).is_finite l.batch-iterator
+    × (taken (replayed l.count (fresh true) (log_of l.bs)) ≡ taken (replayed l.count (good l.files) (log_of l.batch-iterator.rest.now)))
