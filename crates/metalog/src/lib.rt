@@ -7,8 +7,10 @@ ghost use Rattle.std.specs.Iterator.{at_most};
 ghost use Rattle.page.specs.Store.{stored, ran};
 ghost use Rattle.metalog.specs.Log.{entry_size, good_pair, batch_at, entry_of, entries, area_of, log_of, end_of, log_end, rest_erased, fits, sound, put, no_files, add, adds, good, fresh, replayed, replay_of, taken};
 ghost use Rattle.metalog.specs.Batches.{FirstBatch};
-ghost use Rattle.metalog.specs.Batch.{entry_bytes, pair_bytes, entry_for, chosen, marked, batch_stores, new_meta_stores};
-ghost use Rattle.metalog.specs.Run.{added, added_if, run_of, run_stores};
+ghost use Rattle.metalog.specs.Batch.{entry_bytes, entries_bytes, pair_bytes, entry_for, chosen, marked, batch_stores, new_meta_stores};
+ghost use Rattle.arrayvec.specs.ArrayVec.{array_vec_len};
+
+use arrayvec::ArrayVec;
 
 const LOG_START: usize = 12;
 
@@ -17,6 +19,9 @@ const LOG_SIZE: usize = 244;
 const PAIR_SIZE: usize = 4;
 
 const ENTRY_SIZE: usize = 8;
+
+// The last page of a file that has none.
+const NO_PAGE: u16 = 65535;
 
 #[derive(Clone, Copy)]
 pub struct Entry {
@@ -73,37 +78,27 @@ impl<'a> Iterator for Batches<'a> {
 
 // ---- reading
 
+#[tactic(auto, unfolding(crate::specs::Log::good_pair))]
 fn pair_good(n: u16, m: u16) -> bool
     ensures { result ≡ good_pair n m }
 {
-    if m != 65535 - n {
-        return false;
-    }
-    if n < 1 {
-        return false;
-    }
-    n <= 8
+    m == 65535 - n && 1 <= n && n <= 8
 }
 
+#[tactic(auto, unfolding(crate::specs::Log::batch_at, crate::specs::Log::batch_of))]
 fn batch_at(bs: &[u8]) -> Batch
     ensures { result ≡ batch_at bs.now }
 {
-    let left = bs.len();
-    if left < PAIR_SIZE {
-        return Batch::End;
-    }
-    if runs::u32_at(bs, 0) == 0xffff_ffff {
+    if bs.len() < PAIR_SIZE || runs::u32_at(bs, 0) == 0xffff_ffff {
         return Batch::End;
     }
     let n = runs::u16_at(bs, 0);
-    let m = runs::u16_at(bs, 2);
-    if pair_good(n, m) {
-        let k = n as usize;
-        if PAIR_SIZE + ENTRY_SIZE * k <= left {
-            return Batch::Entries(k);
-        }
+    let count = usize::from(n);
+    if pair_good(n, runs::u16_at(bs, 2)) && PAIR_SIZE + ENTRY_SIZE * count <= bs.len() {
+        Batch::Entries(count)
+    } else {
+        Batch::Bad
     }
-    Batch::Bad
 }
 
 fn entry_of(bs: &[u8]) -> Entry
@@ -141,66 +136,58 @@ pub fn log_end(image: &[u8], p: usize) -> Option<usize>
 }
 
 // Whether the page is all 0xFF from there on.
+#[tactic(auto, unfolding(crate::specs::Log::rest_erased))]
 pub fn rest_erased(image: &[u8], p: usize, end: usize) -> bool
     ensures { result ≡ rest_erased image.now p end }
 {
     let bs = area(image, p);
-    if bs.len() <= end {
-        return true;
-    }
-    runs::all_erased(&bs[end..])
+    runs::all_erased(&bs[end.min(bs.len())..])
 }
 
 // Whether a batch of n entries fits there.
+#[tactic(auto, unfolding(crate::specs::Log::fits))]
 pub fn fits(end: usize, n: usize) -> bool
     ensures { result ≡ fits end n }
 {
-    if LOG_SIZE < end {
-        return false;
-    }
-    if LOG_SIZE < n {
-        return false;
-    }
-    LOG_START + (end + (PAIR_SIZE + ENTRY_SIZE * n)) <= 256
+    end <= LOG_SIZE && n <= LOG_SIZE && LOG_START + (end + (PAIR_SIZE + ENTRY_SIZE * n)) <= 256
 }
 
 // ---- replay
 
 // Whether mount takes the entry.
+#[tactic(auto, unfolding(crate::specs::Log::sound))]
 fn is_sound(e: Entry, count: usize) -> bool
     ensures { result ≡ sound count e }
 {
-    if 8 <= e.file {
-        return false;
-    }
-    if e.last == 65535 {
-        return e.first == 0;
-    }
-    (e.last as usize) < count
+    let reachable = if e.last == NO_PAGE {
+        e.first == 0
+    } else {
+        usize::from(e.last) < count
+    };
+    e.file < 8 && reachable
 }
 
 fn no_files() -> Files
     ensures { result ≡ no_files }
 {
     Files {
-        last: [65535; 8],
+        last: [NO_PAGE; 8],
         first: [0; 8],
         flags: [0; 8],
     }
 }
 
-fn put_entry(f: Files, e: Entry) -> Files
-    ensures { result ≡ put f e }
+#[tactic(auto, unfolding(crate::specs::Log::put))]
+fn put_entry(mut files: Files, e: Entry) -> Files
+    ensures { result ≡ put files e }
 {
-    let mut g = f;
-    let i = e.file as usize;
-    if 8 <= i {
-        return g;
+    let i = usize::from(e.file);
+    if i < 8 {
+        files.last[i] = e.last;
+        files.first[i] = e.first;
+        files.flags[i] = e.flags;
     }
-    g.last[i] = e.last;
-    g.first[i] = e.first;
-    g.flags[i] = e.flags;
-    g
+    files
 }
 
 // The files with the entry put in, if mount takes it.
@@ -247,55 +234,24 @@ pub fn replay_at(image: &[u8], p: usize, count: usize) -> Option<Files>
 fn pair_bytes(n: u16) -> [u8; 4]
     ensures { result ≡ pair_bytes n }
 {
-    [
-        (n % 256) as u8,
-        (n / 256 % 256) as u8,
-        ((65535 - n) % 256) as u8,
-        ((65535 - n) / 256 % 256) as u8,
-    ]
+    let [n0, n1] = n.to_le_bytes();
+    let [m0, m1] = (65535 - n).to_le_bytes();
+    [n0, n1, m0, m1]
 }
 
 fn entry_bytes(e: Entry) -> [u8; 8]
     ensures { result ≡ entry_bytes e }
 {
-    let l = e.last;
-    let f = e.first;
-    [
-        e.file,
-        e.flags,
-        (l % 256) as u8,
-        (l / 256 % 256) as u8,
-        (f % 256) as u8,
-        (f / 256 % 256) as u8,
-        (f / 65536 % 256) as u8,
-        (f / 16777216 % 256) as u8,
-    ]
+    let [l0, l1] = e.last.to_le_bytes();
+    let [f0, f1, f2, f3] = e.first.to_le_bytes();
+    [e.file, e.flags, l0, l1, f0, f1, f2, f3]
 }
 
 // How many files are marked.
 pub fn count_marked(marks: [bool; 8]) -> usize
     ensures { result ≡ marked marks }
 {
-    let mut n = 0;
-    let mut i = 0;
-    while i < 8 {
-        n += one_if(marks[i]);
-        i += 1;
-    }
-    n
-}
-
-fn one_if(d: bool) -> usize
-    ensures { result ≡ cond d 1 0 }
-{
-    if d { 1 } else { 0 }
-}
-
-// The bytes of up to eight entries, so many of which are there.
-#[derive(Clone, Copy)]
-struct Run {
-    bytes: [u8; 64],
-    n: usize,
+    marks.iter().filter(|marked| **marked).count()
 }
 
 fn file_entry(f: Files, i: usize) -> Entry
@@ -310,63 +266,33 @@ fn file_entry(f: Files, i: usize) -> Entry
     }
 }
 
-fn add_entry(u: Run, e: Entry) -> Run
-    requires { u.n < 8 }
-    ensures { result ≡ added u e }
+// The entries of the marked files, in id order.
+fn entries_bytes(f: Files, marks: [bool; 8]) -> ArrayVec<u8, 64>
+    ensures { result.items ≡ entries_bytes (chosen f marks) }
 {
-    let mut bytes = u.bytes;
-    let n = u.n;
-    runs::place(&mut bytes, ENTRY_SIZE * n, &entry_bytes(e));
-    Run { bytes, n: n + 1 }
-}
-
-fn add_if(u: Run, e: Entry, d: bool) -> Run
-    requires { u.n < 8 }
-    ensures { result ≡ added_if d u e }
-{
-    if d { add_entry(u, e) } else { u }
-}
-
-fn batch_run(f: Files, marks: [bool; 8]) -> Run
-    ensures { result ≡ run_of f marks }
-{
-    let mut u = Run {
-        bytes: [0; 64],
-        n: 0,
-    };
-    let mut i = 0;
-    while i < 8 {
-        u = add_if(u, file_entry(f, i), marks[i]);
-        i += 1;
+    let mut bytes = ArrayVec::new();
+    for i in 0..8 {
+        if marks[i] {
+            let entry = entry_bytes(file_entry(f, i));
+            bytes.try_extend_from_slice(&entry).unwrap();
+        }
     }
-    u
+    bytes
 }
 
 // ---- stores
-
-fn append_run(image: &mut [u8], p: usize, end: usize, u: Run)
-    requires { (u.n ≤ 8) × (length u.bytes ≡ 64) }
-    ensures { image.new ≡ ran image.old (run_stores p end u) }
-{
-    let n = u.n;
-    if n == 0 {
-        return;
-    }
-    if 256 < end {
-        return;
-    }
-    let bytes = u.bytes;
-    let size = ENTRY_SIZE * n;
-    page::program(image, p, LOG_START + (end + PAIR_SIZE), &bytes[..size]);
-    page::program(image, p, LOG_START + end, &pair_bytes(n as u16));
-}
 
 // Appends a batch of the marked files, in id order, where the log ends: entries, then the count pair.
 pub fn append_batch(image: &mut [u8], p: usize, end: usize, f: Files, marks: [bool; 8])
     ensures { image.new ≡ ran image.old (batch_stores p end (chosen f marks)) }
 {
-    let u = batch_run(f, marks);
-    append_run(image, p, end, u);
+    let entries = entries_bytes(f, marks);
+    if entries.is_empty() || 256 < end {
+        return;
+    }
+    let n = entries.len() / ENTRY_SIZE;
+    page::program(image, p, LOG_START + (end + PAIR_SIZE), &entries);
+    page::program(image, p, LOG_START + end, &pair_bytes(n as u16));
 }
 
 // Makes p a metadata page with the marked files: erase, entries, count pair, page header last.
