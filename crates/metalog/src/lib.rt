@@ -31,7 +31,8 @@ pub struct Entry {
     pub first: u32,
 }
 
-// What stands at a place of the log: its end, a batch of so many entries, or neither.
+// What stands at a place of the log: its end, a batch of so many entries, or neither. Three cases of one rank: in a
+// Result<Option<usize>, _> the end would be a batch that is missing, and no reader of it would use `?`.
 #[derive(Clone, Copy)]
 enum Batch {
     End,
@@ -39,7 +40,8 @@ enum Batch {
     Bad,
 }
 
-// The eight files as entries say: last page, first_seq, flags.
+// The eight files as entries say: last page, first_seq, flags. An array for each field and no array of structs, since
+// the theorems of a commit and of what was reached speak of each field's list.
 #[derive(Clone, Copy)]
 pub struct Files {
     pub last: [u16; 8],
@@ -76,6 +78,102 @@ impl<'a> Iterator for Batches<'a> {
     }
 }
 
+impl Entry {
+    // Bytes that are not there count as 0.
+    fn from_bytes(bs: &[u8]) -> Entry
+        ensures { result ≡ entry_of bs.now }
+    {
+        Entry {
+            file: runs::byte_at(bs, 0),
+            flags: runs::byte_at(bs, 1),
+            last: runs::u16_at(bs, 2),
+            first: runs::u32_at(bs, 4),
+        }
+    }
+
+    fn to_bytes(self) -> [u8; 8]
+        ensures { result ≡ entry_bytes self }
+    {
+        let [l0, l1] = self.last.to_le_bytes();
+        let [f0, f1, f2, f3] = self.first.to_le_bytes();
+        [self.file, self.flags, l0, l1, f0, f1, f2, f3]
+    }
+
+    // Whether mount takes it.
+    #[tactic(auto, unfolding(crate::specs::Log::sound))]
+    fn is_sound(self, count: usize) -> bool
+        ensures { result ≡ sound count self }
+    {
+        let reachable = if self.last == NO_PAGE {
+            self.first == 0
+        } else {
+            usize::from(self.last) < count
+        };
+        self.file < 8 && reachable
+    }
+}
+
+impl Files {
+    // Eight files without pages.
+    const NONE: Files = Files {
+        last: [NO_PAGE; 8],
+        first: [0; 8],
+        flags: [0; 8],
+    };
+
+    // With the entry in the place of its file's, if mount takes it.
+    #[tactic(auto, unfolding(crate::specs::Log::put, crate::specs::Log::sound))]
+    fn with(mut self, entry: Entry, count: usize) -> Option<Files>
+        ensures { result ≡ taken (add count (good self) entry) }
+    {
+        if !entry.is_sound(count) {
+            return None;
+        }
+        let i = usize::from(entry.file);
+        self.last[i] = entry.last;
+        self.first[i] = entry.first;
+        self.flags[i] = entry.flags;
+        Some(self)
+    }
+
+    // With all entries of a batch, in order.
+    fn with_batch(mut self, batch: &[u8], count: usize) -> Option<Files>
+        ensures { result ≡ taken (adds count (good self) (entries (length batch.now / entry_size) batch.now)) }
+    {
+        for entry in batch.chunks_exact(ENTRY_SIZE) {
+            self = self.with(Entry::from_bytes(entry), count)?;
+        }
+        Some(self)
+    }
+
+    fn entry(&self, i: usize) -> Entry
+        requires { i < 8 }
+        ensures { result ≡ entry_for self.now i }
+    {
+        Entry {
+            file: i as u8,
+            flags: self.flags[i],
+            last: self.last[i],
+            first: self.first[i],
+        }
+    }
+
+    // The bytes of the marked files' entries, in id order.
+    fn marked_bytes(&self, marks: [bool; 8]) -> ArrayVec<u8, 64>
+        ensures { result.items ≡ entries_bytes (chosen self.now marks) }
+    {
+        let mut bytes = ArrayVec::new();
+        for i in 0..8 {
+            if marks[i] {
+                bytes
+                    .try_extend_from_slice(&self.entry(i).to_bytes())
+                    .unwrap();
+            }
+        }
+        bytes
+    }
+}
+
 // ---- reading
 
 #[tactic(auto, unfolding(crate::specs::Log::good_pair))]
@@ -101,17 +199,6 @@ fn batch_at(bs: &[u8]) -> Batch
     }
 }
 
-fn entry_of(bs: &[u8]) -> Entry
-    ensures { result ≡ entry_of bs.now }
-{
-    Entry {
-        file: runs::byte_at(bs, 0),
-        flags: runs::byte_at(bs, 1),
-        last: runs::u16_at(bs, 2),
-        first: runs::u32_at(bs, 4),
-    }
-}
-
 fn area(image: &[u8], p: usize) -> &[u8]
     ensures { result.now ≡ area_of image.now p }
 {
@@ -122,7 +209,8 @@ fn end_of(bs: &[u8]) -> Option<usize>
     ensures { result ≡ end_of (log_of bs.now) }
 {
     let mut end = 0;
-    for batch in (Batches { rest: bs }) {
+    let batches = Batches { rest: bs };
+    for batch in batches {
         end += PAIR_SIZE + batch?.len();
     }
     Some(end)
@@ -154,70 +242,13 @@ pub fn fits(end: usize, n: usize) -> bool
 
 // ---- replay
 
-// Whether mount takes the entry.
-#[tactic(auto, unfolding(crate::specs::Log::sound))]
-fn is_sound(e: Entry, count: usize) -> bool
-    ensures { result ≡ sound count e }
-{
-    let reachable = if e.last == NO_PAGE {
-        e.first == 0
-    } else {
-        usize::from(e.last) < count
-    };
-    e.file < 8 && reachable
-}
-
-fn no_files() -> Files
-    ensures { result ≡ no_files }
-{
-    Files {
-        last: [NO_PAGE; 8],
-        first: [0; 8],
-        flags: [0; 8],
-    }
-}
-
-#[tactic(auto, unfolding(crate::specs::Log::put))]
-fn put_entry(mut files: Files, e: Entry) -> Files
-    ensures { result ≡ put files e }
-{
-    let i = usize::from(e.file);
-    if i < 8 {
-        files.last[i] = e.last;
-        files.first[i] = e.first;
-        files.flags[i] = e.flags;
-    }
-    files
-}
-
-// The files with the entry put in, if mount takes it.
-fn add_one(files: Files, e: Entry, count: usize) -> Option<Files>
-    ensures { result ≡ taken (add count (good files) e) }
-{
-    if is_sound(e, count) {
-        Some(put_entry(files, e))
-    } else {
-        None
-    }
-}
-
-// The files with the entries of a batch put in, in order.
-fn add_all(files: Files, batch: &[u8], count: usize) -> Option<Files>
-    ensures { result ≡ taken (adds count (good files) (entries (length batch.now / entry_size) batch.now)) }
-{
-    let mut files = files;
-    for entry in batch.chunks_exact(ENTRY_SIZE) {
-        files = add_one(files, entry_of(entry), count)?;
-    }
-    Some(files)
-}
-
 fn replay_log(bs: &[u8], count: usize) -> Option<Files>
     ensures { result ≡ taken (replayed count (fresh true) (log_of bs.now)) }
 {
-    let mut files = no_files();
-    for batch in (Batches { rest: bs }) {
-        files = add_all(files, batch?, count)?;
+    let mut files = Files::NONE;
+    let batches = Batches { rest: bs };
+    for batch in batches {
+        files = files.with_batch(batch?, count)?;
     }
     Some(files)
 }
@@ -239,45 +270,11 @@ fn pair_bytes(n: u16) -> [u8; 4]
     [n0, n1, m0, m1]
 }
 
-fn entry_bytes(e: Entry) -> [u8; 8]
-    ensures { result ≡ entry_bytes e }
-{
-    let [l0, l1] = e.last.to_le_bytes();
-    let [f0, f1, f2, f3] = e.first.to_le_bytes();
-    [e.file, e.flags, l0, l1, f0, f1, f2, f3]
-}
-
 // How many files are marked.
 pub fn count_marked(marks: [bool; 8]) -> usize
     ensures { result ≡ marked marks }
 {
     marks.iter().filter(|marked| **marked).count()
-}
-
-fn file_entry(f: Files, i: usize) -> Entry
-    requires { i < 8 }
-    ensures { result ≡ entry_for f i }
-{
-    Entry {
-        file: i as u8,
-        flags: f.flags[i],
-        last: f.last[i],
-        first: f.first[i],
-    }
-}
-
-// The entries of the marked files, in id order.
-fn entries_bytes(f: Files, marks: [bool; 8]) -> ArrayVec<u8, 64>
-    ensures { result.items ≡ entries_bytes (chosen f marks) }
-{
-    let mut bytes = ArrayVec::new();
-    for i in 0..8 {
-        if marks[i] {
-            let entry = entry_bytes(file_entry(f, i));
-            bytes.try_extend_from_slice(&entry).unwrap();
-        }
-    }
-    bytes
 }
 
 // ---- stores
@@ -286,7 +283,7 @@ fn entries_bytes(f: Files, marks: [bool; 8]) -> ArrayVec<u8, 64>
 pub fn append_batch(image: &mut [u8], p: usize, end: usize, f: Files, marks: [bool; 8])
     ensures { image.new ≡ ran image.old (batch_stores p end (chosen f marks)) }
 {
-    let entries = entries_bytes(f, marks);
+    let entries = f.marked_bytes(marks);
     if entries.is_empty() || 256 < end {
         return;
     }

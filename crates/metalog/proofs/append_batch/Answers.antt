@@ -14,10 +14,10 @@ use Rattle.metalog.proofs.append_batch.Goals.{then-is_empty-via-then-is_empty, t
 pub returns-then-is_empty : goal.returns-then-is_empty
 returns-then-is_empty c =
     let a = c.args in
-    let e = c.entries_bytes-entries.ensures in
+    let e = c.marked_bytes-entries.ensures in
     elim c.then-is_empty.branch [
       | then-is_empty-via-then-is_empty w ↦
-          let n : length c.entries_bytes-entries.result.items ≡ 0 = search (rules, w.if-is_empty.ensures) in
+          let n : length c.marked_bytes-entries.result.items ≡ 0 = search (rules, w.if-is_empty.ensures) in
           sym (ap (ran a.image.now) (stores_none a.p a.end (chosen a.f a.marks) (rw e at n)))
       | then-is_empty-via-else-is_empty+then-end-gt256 w ↦ sym (stores_past a.image.now a.p a.end (chosen a.f a.marks) w.if-end-gt256.true)
     ]
@@ -25,8 +25,8 @@ returns-then-is_empty c =
 pub returns : goal.returns
 returns c =
     let a = c.args in
-    let v = c.entries_bytes-entries.result.items in
-    let e = c.entries_bytes-entries.ensures in
+    let v = c.marked_bytes-entries.result.items in
+    let e = c.marked_bytes-entries.ensures in
     let d : c.deref.result.now ≡ v = search rules in
     let n : c.len-n.result ≡ length v = search rules in
     let k : 0 < length v = search (rules, c.if-is_empty.ensures) in

@@ -22,13 +22,13 @@ returns-in_err-files c =
     let o = c.loop-batch in
     let f = first (goal.at.returns-in_err-files c).In_ok-batch in
     c.from_residual-in_err-files.ensures
-    ∙ sym (o.invariant.2 ∙ replay_spoiled f c.args.count o.files (sym c.add_all.ensures ∙ c.in_err-files.was))
+    ∙ sym (o.invariant.2 ∙ replay_spoiled f c.args.count o.files (sym c.with_batch.ensures ∙ c.in_err-files.was))
 
 pub loop-batch-preserved : goal.loop-batch-preserved
 loop-batch-preserved c =
     let o = c.loop-batch in
     let f = first (goal.at.loop-batch-preserved c).In_ok-batch in
-    (tt, tt, o.invariant.2 ∙ replay_first f c.args.count o.files c.in_ok-files.files (sym c.add_all.ensures ∙ c.in_ok-files.was))
+    (tt, tt, o.invariant.2 ∙ replay_first f c.args.count o.files c.in_ok-files.files (sym c.with_batch.ensures ∙ c.in_ok-files.was))
 
 pub returns : goal.returns
 returns c =

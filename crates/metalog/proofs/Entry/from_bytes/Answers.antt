@@ -1,7 +1,7 @@
--- `metalog::entry_of` meets its contract.
+-- `metalog::Entry::from_bytes` meets its contract.
 -- Assumes nothing.
 use Rattle.metalog.specs.Log.{entry_of}
-use Rattle.metalog.proofs.entry_of.Goals as goal
+use Rattle.metalog.proofs.Entry.from_bytes.Goals as goal
 
 pub returns : goal.returns
 unfolding entry_of
