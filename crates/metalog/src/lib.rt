@@ -80,6 +80,7 @@ impl<'a> Iterator for Batches<'a> {
 
 impl Entry {
     // Bytes that are not there count as 0.
+    #[tactic(auto, unfolding(crate::specs::Log::entry_of))]
     fn from_bytes(bs: &[u8]) -> Entry
         ensures { result ≡ entry_of bs.now }
     {
@@ -199,6 +200,7 @@ fn batch_at(bs: &[u8]) -> Batch
     }
 }
 
+#[tactic(auto, unfolding(crate::specs::Log::area_of))]
 fn area(image: &[u8], p: usize) -> &[u8]
     ensures { result.now ≡ area_of image.now p }
 {
@@ -217,6 +219,7 @@ fn end_of(bs: &[u8]) -> Option<usize>
 }
 
 // Where the log of page p ends, counted from its beginning, if it can be read.
+#[tactic(auto, unfolding(crate::specs::Log::log_end))]
 pub fn log_end(image: &[u8], p: usize) -> Option<usize>
     ensures { result ≡ log_end image.now p }
 {
@@ -254,6 +257,7 @@ fn replay_log(bs: &[u8], count: usize) -> Option<Files>
 }
 
 // The files that the log of page p leaves, for an image of count pages, if it reads and mount takes every entry.
+#[tactic(auto, unfolding(crate::specs::Log::replay_of))]
 pub fn replay_at(image: &[u8], p: usize, count: usize) -> Option<Files>
     ensures { result ≡ taken (replay_of count image.now p) }
 {
@@ -293,6 +297,7 @@ pub fn append_batch(image: &mut [u8], p: usize, end: usize, f: Files, marks: [bo
 }
 
 // Makes p a metadata page with the marked files: erase, entries, count pair, page header last.
+#[tactic(auto, using(page::proofs::Laws::ran_append), unfolding(crate::specs::Batch::new_meta_stores))]
 pub fn store_new_meta(image: &mut [u8], p: usize, m: page::MetaHeader, f: Files, marks: [bool; 8])
     ensures { image.new ≡ ran image.old (new_meta_stores p m (chosen f marks)) }
 {
