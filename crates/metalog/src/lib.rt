@@ -62,6 +62,7 @@ impl<'a> Iterator for Batches<'a> {
 
     ghost remaining = { λ s. at_most (length s.rest.now) };
 
+    #[tactic(auto, using(crate::proofs::Laws::batch_room, crate::proofs::Laws::bad_room), unfolding(runs::specs::Runs::part))]
     fn next(&mut self) -> Option<Option<&'a [u8]>> {
         match batch_at(self.rest) {
             Batch::End => None,
@@ -207,6 +208,7 @@ fn area(image: &[u8], p: usize) -> &[u8]
     page::area_at(image, p, LOG_START, LOG_SIZE)
 }
 
+#[tactic(auto, using(crate::proofs::Laws::end_first, crate::proofs::Laws::first_room, crate::proofs::Laws::end_end, crate::proofs::Laws::end_bad))]
 fn end_of(bs: &[u8]) -> Option<usize>
     ensures { result ≡ end_of (log_of bs.now) }
 {
@@ -245,6 +247,7 @@ pub fn fits(end: usize, n: usize) -> bool
 
 // ---- replay
 
+#[tactic(auto, using(crate::proofs::Laws::replay_first, crate::proofs::Laws::replay_spoiled, crate::proofs::Laws::replay_end, crate::proofs::Laws::replay_bad))]
 fn replay_log(bs: &[u8], count: usize) -> Option<Files>
     ensures { result ≡ taken (replayed count (fresh true) (log_of bs.now)) }
 {
@@ -275,6 +278,7 @@ fn pair_bytes(n: u16) -> [u8; 4]
 }
 
 // How many files are marked.
+#[tactic(auto, using(crate::proofs::Runs::marked_count))]
 pub fn count_marked(marks: [bool; 8]) -> usize
     ensures { result ≡ marked marks }
 {
@@ -284,6 +288,7 @@ pub fn count_marked(marks: [bool; 8]) -> usize
 // ---- stores
 
 // Appends a batch of the marked files, in id order, where the log ends: entries, then the count pair.
+#[tactic(auto, using(crate::proofs::Runs::stores_none, crate::proofs::Runs::stores_some, crate::proofs::Runs::stores_past))]
 pub fn append_batch(image: &mut [u8], p: usize, end: usize, f: Files, marks: [bool; 8])
     ensures { image.new ≡ ran image.old (batch_stores p end (chosen f marks)) }
 {
