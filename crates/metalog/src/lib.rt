@@ -139,6 +139,7 @@ impl Files {
     }
 
     // With all entries of a batch, in order.
+    #[tactic(auto, using(crate::proofs::Laws::entry_first, crate::proofs::Laws::entry_spoiled))]
     fn with_batch(mut self, batch: &[u8], count: usize) -> Option<Files>
         ensures { result ≡ taken (adds count (good self) (entries (length batch.now / entry_size) batch.now)) }
     {
@@ -161,6 +162,7 @@ impl Files {
     }
 
     // The bytes of the marked files' entries, in id order.
+    #[tactic(auto, using(crate::proofs::Runs::below_none, crate::proofs::Runs::below_more, crate::proofs::Runs::below_same, crate::proofs::Runs::below_all))]
     fn marked_bytes(&self, marks: [bool; 8]) -> ArrayVec<u8, 64>
         ensures { result.items ≡ entries_bytes (chosen self.now marks) }
     {
