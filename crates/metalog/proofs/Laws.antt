@@ -5,7 +5,7 @@ use mathlib.Core.Path.{◌≡◌, refl, sym, ap, ap₂, ◌∙◌}
 use mathlib.Core.List.{List, [], ◌∷◌, ◌++◌}
 use mathlib.Core.Bool.{Bool, true, false, cond, ◌&&◌, and-eq-true_iff}
 use native.Mathlib.Omega.{arith}
-use native.Mathlib.Nat.{add_assoc, add-zero, zero-add}
+use native.Mathlib.Nat.{add_assoc, add-zero}
 use lib.ListN.{length, take, drop, get_or, length-append, length-drop}
 use lib.Seq.{get_or-take, take_at, drop_at}
 use lib.Dec.{eqb, ltb, leb}
@@ -187,10 +187,6 @@ spoiled_log count r damaged h = refl
 
 -- ---- an entry at a time
 
--- with fewer than eight bytes left there is none
-pub entries_none : (bs : List ℕ) → length bs < 8 → entries (length bs / 8) bs ≡ []
-entries_none bs h = let e : length bs / 8 ≡ 0 = omega arith in rw e
-
 module _ (count : ℕ) (f : Files) (x bs : List ℕ) (h : length x ≡ 8) where
   entry_adds : taken (adds count (good f) (entries (length (x ++ bs) / 8) (x ++ bs))) ≡ taken (adds count (add count (good f) (entry_of x)) (entries (length bs / 8) bs))
   entry_adds = ap (λ (es : List Entry). taken (adds count (good f) es)) (entries_more x bs h)
@@ -214,11 +210,6 @@ further k None = None
 further_after : (k : ℕ) (es : List Entry) (n : ℕ) (l : Log) → further k (end_of (after es n l)) ≡ further (k + n) (end_of l)
 further_after k es n (ended fs e) = rw add_assoc
 further_after k es n damaged = refl
-
--- no way further
-pub further_none : (e : Option ℕ) → further 0 e ≡ e
-further_none (Some e) = rw zero-add
-further_none None = refl
 
 module _ (k : ℕ) (bs : List ℕ) where
   pub end_more : (n : ℕ) → batch_at bs ≡ Entries n → further k (end_of (log_of bs)) ≡ further (k + batch_size n) (end_of (log_of (drop (batch_size n) bs)))

@@ -12,6 +12,7 @@ use Rattle.std.specs.List.{count_by}
 use Rattle.std.proofs.lemmas.List.Recursion.{is_count_by}
 use Rattle.page.specs.Store.{program, stored, ran}
 use Rattle.page.proofs.Laws.{stored_past}
+use Rattle.metalog.proofs.Append.{length_entries}
 use Rattle.metalog.specs.declared.Entry.{Entry}
 use Rattle.metalog.specs.declared.Files.{Files}
 use Rattle.metalog.specs.Batch.{entry_bytes, entries_bytes, pair_bytes, entry_for, chosen_from, chosen, marked_from, marked, batch_stores}
@@ -74,10 +75,6 @@ marked_count marks h = ap (marked_from marks 0) (sym h) ∙ all marks
 
 -- ---- the stores of a batch, by its bytes
 
-length_bytes : (es : List Entry) → length (entries_bytes es) ≡ 8 * length es
-length_bytes [] = refl
-length_bytes (e ∷ es) = let h = length_bytes es in omega arith
-
 -- no bytes are no store
 pub stores_none : (p e : ℕ) (es : List Entry) → length (entries_bytes es) ≡ 0 → batch_stores p e es ≡ []
 unfolding batch_stores
@@ -91,7 +88,7 @@ pub stores_some : (img : List ℕ) (p e : ℕ) (es : List Entry) → 0 < length 
 unfolding batch_stores
 stores_some img p e [] h = absurd (omega arith)
 stores_some img p e (x ∷ es) h =
-    let k = length_bytes (x ∷ es) in
+    let k = length_entries (x ∷ es) in
     let n : length (entries_bytes (x ∷ es)) / 8 ≡ length (x ∷ es) = omega arith in
     ap (λ (m : ℕ). stored (stored img (program p (12 + (e + 4)) (entries_bytes (x ∷ es)))) (program p (12 + e) (pair_bytes m))) (sym n)
 

@@ -210,24 +210,25 @@ fn area(image: &[u8], p: usize) -> &[u8]
     page::area_at(image, p, LOG_START, LOG_SIZE)
 }
 
-#[tactic(auto, using(crate::proofs::Laws::end_first, crate::proofs::Laws::first_room, crate::proofs::Laws::end_end, crate::proofs::Laws::end_bad))]
-fn end_of(bs: &[u8]) -> Option<usize>
-    ensures { result ≡ end_of (log_of bs.now) }
+// The batches of the log of page p.
+fn batches_of(image: &[u8], p: usize) -> Batches<'_>
+    ensures { result.rest.now ≡ area_of image.now p }
 {
-    let mut end = 0;
-    let batches = Batches { rest: bs };
-    for batch in batches {
-        end += PAIR_SIZE + batch?.len();
+    Batches {
+        rest: area(image, p),
     }
-    Some(end)
 }
 
 // Where the log of page p ends, counted from its beginning, if it can be read.
-#[tactic(auto, unfolding(crate::specs::Log::log_end))]
+#[tactic(auto, using(crate::proofs::Laws::end_first, crate::proofs::Laws::first_room, crate::proofs::Laws::end_end, crate::proofs::Laws::end_bad), unfolding(crate::specs::Log::log_end))]
 pub fn log_end(image: &[u8], p: usize) -> Option<usize>
     ensures { result ≡ log_end image.now p }
 {
-    end_of(area(image, p))
+    let mut end = 0;
+    for batch in batches_of(image, p) {
+        end += PAIR_SIZE + batch?.len();
+    }
+    Some(end)
 }
 
 // Whether the page is all 0xFF from there on.
@@ -249,24 +250,16 @@ pub fn fits(end: usize, n: usize) -> bool
 
 // ---- replay
 
-#[tactic(auto, using(crate::proofs::Laws::replay_first, crate::proofs::Laws::replay_spoiled, crate::proofs::Laws::replay_end, crate::proofs::Laws::replay_bad))]
-fn replay_log(bs: &[u8], count: usize) -> Option<Files>
-    ensures { result ≡ taken (replayed count (fresh true) (log_of bs.now)) }
-{
-    let mut files = Files::NONE;
-    let batches = Batches { rest: bs };
-    for batch in batches {
-        files = files.with_batch(batch?, count)?;
-    }
-    Some(files)
-}
-
 // The files that the log of page p leaves, for an image of count pages, if it reads and mount takes every entry.
-#[tactic(auto, unfolding(crate::specs::Log::replay_of))]
+#[tactic(auto, using(crate::proofs::Laws::replay_first, crate::proofs::Laws::replay_spoiled, crate::proofs::Laws::replay_end, crate::proofs::Laws::replay_bad), unfolding(crate::specs::Log::replay_of))]
 pub fn replay_at(image: &[u8], p: usize, count: usize) -> Option<Files>
     ensures { result ≡ taken (replay_of count image.now p) }
 {
-    replay_log(area(image, p), count)
+    let mut files = Files::NONE;
+    for batch in batches_of(image, p) {
+        files = files.with_batch(batch?, count)?;
+    }
+    Some(files)
 }
 
 // ---- the bytes of a batch
