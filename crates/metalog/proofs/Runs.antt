@@ -1,77 +1,21 @@
--- The run that the code gathers is the bytes of the marked files' entries, in id order, and its stores are theirs.
+-- The marked files: their entries, how many they are, and their bytes in id order.
 -- Assumes nothing.
-use Prim.Native.Nat.{ℕ, zero, suc, ◌+◌, ◌-◌, ◌*◌, ◌≤◌, ◌<◌}
+use Prim.Native.Nat.{ℕ, zero, suc, ◌+◌, ◌-◌, ◌*◌, ◌/◌, ◌≤◌, ◌<◌}
 use mathlib.Core.Path.{◌≡◌, refl, sym, ap, ◌∙◌}
 use mathlib.Core.List.{List, [], ◌∷◌, ◌++◌, append-nil, append_assoc}
 use mathlib.Core.Bool.{Bool, true, false, cond}
 use native.Mathlib.Omega.{arith}
 use native.Mathlib.Numerals.{add-one}
 use native.Mathlib.Nat.{zero-add}
-use lib.ListN.{length, take, drop, get_or, replicate, length-append}
-use lib.Seq.{length-take-le, take_at}
-use borrow.Author.Tests.{ne_eqb}
-use Rattle.runs.specs.Runs.{splice, placed}
-use Rattle.runs.proofs.Laws.{placed_in, length_splice}
+use lib.ListN.{length, get_or, length-append}
+use Rattle.std.specs.List.{count_by}
+use Rattle.std.proofs.lemmas.List.Recursion.{is_count_by}
 use Rattle.page.specs.Store.{program, stored, ran}
 use Rattle.page.proofs.Laws.{stored_past}
+use Rattle.metalog.proofs.Append.{length_entries}
 use Rattle.metalog.specs.declared.Entry.{Entry}
 use Rattle.metalog.specs.declared.Files.{Files}
-use Rattle.metalog.specs.declared.Run.{Run}
-use Rattle.metalog.specs.Batch.{entry_bytes, entries_bytes, entry_for, chosen_from, chosen, marked_from, marked, pair_store, batch_stores}
-use Rattle.metalog.specs.Run.{added, added_if, run_from, run_of, run_stores}
-
-take_run : (l : List ℕ) (a : ℕ) (r : List ℕ) (k : ℕ) → a + length r ≤ length l → k ≡ a + length r → take k (splice l a r) ≡ take a l ++ r
-unfolding splice
-take_run l a r k h e =
-    let n : length (take a l ++ r) ≡ k = simp (length-append, length-take-le a l (omega arith)) (omega arith) in
-    ap (take k) (sym (append_assoc (take a l) r (drop (a + length r) l))) ∙ take_at (take a l ++ r) (drop (a + length r) l) k n
-
--- v is u with the entries es after it
-pub record Longer (u v : Run) (es : List Entry) : Type 0 where
-  pub room : length v.bytes ≡ 64
-  pub count : v.n ≡ u.n + length es
-  pub bytes : take (8 * v.n) v.bytes ≡ take (8 * u.n) u.bytes ++ entries_bytes es
-
-longer_none : (u : Run) → length u.bytes ≡ 64 → Longer u u []
-longer_none u l = record { room = l; count = omega arith; bytes = sym (append-nil (take (8 * u.n) u.bytes)) }
-
-module _ (u : Run) (e : Entry) (l : length u.bytes ≡ 64) (h : u.n + 1 ≤ 8) where
-  added_room : length (added u e).bytes ≡ 64
-  added_room = rw (placed_in u.bytes (8 * u.n) (entry_bytes e) (omega arith)) (length_splice u.bytes (8 * u.n) (entry_bytes e) (omega arith) ∙ l)
-
-  longer_more : (v : Run) (es : List Entry) → Longer (added u e) v es → Longer u v (e ∷ es)
-  longer_more v es x =
-      let c : v.n ≡ u.n + 1 + length es = x.count in
-      let t : take (8 * (u.n + 1)) (placed u.bytes (8 * u.n) (entry_bytes e)) ≡ take (8 * u.n) u.bytes ++ entry_bytes e =
-      ap (take (8 * (u.n + 1))) (placed_in u.bytes (8 * u.n) (entry_bytes e) (omega arith))
-      ∙ take_run u.bytes (8 * u.n) (entry_bytes e) (8 * (u.n + 1)) (omega arith) (omega arith) in
-      record {
-        room = x.room;
-        count = omega arith;
-        bytes = x.bytes
-            ∙ ap (λ (y : List ℕ). y ++ entries_bytes es) t
-            ∙ append_assoc (take (8 * u.n) u.bytes) (entry_bytes e) (entries_bytes es);
-      }
-
-longer : (u : Run) (f : Files) (marks : List Bool) (i n : ℕ) → length u.bytes ≡ 64 → u.n + n ≤ 8
-    → Longer u (run_from u f marks i n) (chosen_from f marks i n)
-longer u f marks i zero l h = longer_none u l
-longer u f marks i (suc n) l h =
-    by (get_or marks i false) (λ v l h. longer v f marks (suc i) n l h)
-  where
-    by : (b : Bool) → ((v : Run) → length v.bytes ≡ 64 → v.n + n ≤ 8 → Longer v (run_from v f marks (suc i) n) (chosen_from f marks (suc i) n))
-        → Longer u (run_from (added_if b u (entry_for f i)) f marks (suc i) n) (cond b (entry_for f i ∷ []) [] ++ chosen_from f marks (suc i) n)
-    by false ih = ih u l (omega arith)
-    by true ih =
-        let k : u.n + 1 ≤ 8 = omega arith in
-        longer_more u (entry_for f i) l k (run_from (added u (entry_for f i)) f marks (suc i) n) (chosen_from f marks (suc i) n)
-        (ih (added u (entry_for f i)) (added_room u (entry_for f i) l k) (omega arith))
-
-run_longer : (f : Files) (marks : List Bool) → Longer (record { bytes = replicate 64 0; n = 0 }) (run_of f marks) (chosen f marks)
-unfolding run_of chosen
-run_longer f marks = longer (record { bytes = replicate 64 0; n = 0 }) f marks 0 8 refl (omega arith)
-
--- ---- the marked files
+use Rattle.metalog.specs.Batch.{entry_bytes, entries_bytes, pair_bytes, entry_for, chosen_from, chosen, marked_from, marked, batch_stores}
 
 -- as many entries as marks
 pub length_chosen : (f : Files) (marks : List Bool) → length (chosen f marks) ≡ marked marks
@@ -113,68 +57,84 @@ batch_none p e f marks h = by (chosen f marks) (length_chosen f marks ∙ h)
     by [] k = refl
     by (x ∷ es) k = absurd (omega arith)
 
--- ---- the run's stores are a batch's
+-- so many are marked
+pub marked_count : (marks : List Bool) → length marks ≡ 8 → marked marks ≡ count_by (λ b. b) marks
+unfolding marked
+marked_count marks h = ap (marked_from marks 0) (sym h) ∙ all marks
+  where
+    behind : (x : Bool) (bs : List Bool) (i n : ℕ) → marked_from (x ∷ bs) (suc i) n ≡ marked_from bs i n
+    behind x bs i zero = refl
+    behind x bs i (suc n) = ap (λ (k : ℕ). cond (get_or bs i false) 1 0 + k) (behind x bs (suc i) n)
 
--- at most eight entries
-pub run_few : (f : Files) (marks : List Bool) → (run_of f marks).n ≤ 8
-run_few f marks = omega (arith, (run_longer f marks).count, chosen_few f marks)
+    step : (x : Bool) (bs : List Bool) → marked_from (x ∷ bs) 0 (length (x ∷ bs)) ≡ cond x (1 + marked_from bs 0 (length bs)) (marked_from bs 0 (length bs))
+    step true bs = ap (λ (k : ℕ). 1 + k) (behind true bs 0 (length bs))
+    step false bs = zero-add (marked_from (false ∷ bs) 1 (length bs)) ∙ behind false bs 0 (length bs)
 
--- in 64 bytes
-pub run_room : (f : Files) (marks : List Bool) → length (run_of f marks).bytes ≡ 64
-run_room f marks = (run_longer f marks).room
+    all : (bs : List Bool) → marked_from bs 0 (length bs) ≡ count_by (λ b. b) bs
+    all bs = is_count_by (λ l. marked_from l 0 (length l)) (λ b. b) refl step bs
 
-stores_by : (p e : ℕ) (u : Run) (es : List Entry) → u.n ≡ length es → take (8 * u.n) u.bytes ≡ entries_bytes es → run_stores p e u ≡ batch_stores p e es
-unfolding run_stores batch_stores
-stores_by p e u [] h k = rw h
-stores_by p e u (x ∷ es) h k = let n : u.n ≡ 0 → ⊥ = λ q. omega arith in rw (ne_eqb _ _ n, k, h)
+-- ---- the stores of a batch, by its bytes
 
--- the stores of the run are those of the entries
-pub run_stores_lem : (p e : ℕ) (f : Files) (marks : List Bool) → run_stores p e (run_of f marks) ≡ batch_stores p e (chosen f marks)
-run_stores_lem p e f marks =
-    let l = run_longer f marks in
-    stores_by p e (run_of f marks) (chosen f marks) (l.count ∙ zero-add (length (chosen f marks))) l.bytes
+-- no bytes are no store
+pub stores_none : (p e : ℕ) (es : List Entry) → length (entries_bytes es) ≡ 0 → batch_stores p e es ≡ []
+unfolding batch_stores
+stores_none p e [] h = refl
+stores_none p e (x ∷ es) h = absurd (omega arith)
 
--- ---- turns of the loops
+-- others are stored before their count pair
+pub stores_some : (img : List ℕ) (p e : ℕ) (es : List Entry) → 0 < length (entries_bytes es)
+    → ran img (batch_stores p e es)
+    ≡ stored (stored img (program p (12 + (e + 4)) (entries_bytes es))) (program p (12 + e) (pair_bytes (length (entries_bytes es) / 8)))
+unfolding batch_stores
+stores_some img p e [] h = absurd (omega arith)
+stores_some img p e (x ∷ es) h =
+    let k = length_entries (x ∷ es) in
+    let n : length (entries_bytes (x ∷ es)) / 8 ≡ length (x ∷ es) = omega arith in
+    ap (λ (m : ℕ). stored (stored img (program p (12 + (e + 4)) (entries_bytes (x ∷ es)))) (program p (12 + e) (pair_bytes m))) (sym n)
 
-pub run_more : (u : Run) (f : Files) (marks : List Bool) (i : ℕ) → i < 8
-    → run_from u f marks i (8 - i) ≡ run_from (added_if (get_or marks i false) u (entry_for f i)) f marks (i + 1) (8 - (i + 1))
-run_more u f marks i h =
+-- and nothing changes past the page
+pub stores_past : (img : List ℕ) (p e : ℕ) (es : List Entry) → 256 < e → ran img (batch_stores p e es) ≡ img
+unfolding batch_stores
+stores_past img p e [] h = refl
+stores_past img p e (x ∷ es) h =
+    stored_past (stored img (program p (12 + (e + 4)) (entries_bytes (x ∷ es)))) (program p (12 + e) (pair_bytes (length (x ∷ es)))) (omega arith)
+    ∙ stored_past img (program p (12 + (e + 4)) (entries_bytes (x ∷ es))) (omega arith)
+
+-- ---- a turn at a time
+
+chosen_more : (f : Files) (marks : List Bool) (i : ℕ) → i < 8
+    → chosen_from f marks i (8 - i) ≡ cond (get_or marks i false) (entry_for f i ∷ []) [] ++ chosen_from f marks (i + 1) (8 - (i + 1))
+chosen_more f marks i h =
     let e : 8 - i ≡ suc (8 - (i + 1)) = omega arith in
     rw (e, add-one)
 
-pub marked_more : (marks : List Bool) (i : ℕ) → i < 8 → marked_from marks i (8 - i) ≡ cond (get_or marks i false) 1 0 + marked_from marks (i + 1) (8 - (i + 1))
-marked_more marks i h =
-    let e : 8 - i ≡ suc (8 - (i + 1)) = omega arith in
-    rw (e, add-one)
+-- l has the entries of the marked files below i
+pub record Below (f : Files) (marks : List Bool) (i : ℕ) (l : List ℕ) : Type 0 where
+  pub few : length l ≤ 8 * i
+  pub is : l ++ entries_bytes (chosen_from f marks i (8 - i)) ≡ entries_bytes (chosen f marks)
 
-pub added_few : (b : Bool) (u : Run) (e : Entry) → (added_if b u e).n ≤ u.n + 1
-added_few true u e = omega arith
-added_few false u e = omega arith
+pub below_none : (f : Files) (marks : List Bool) → Below f marks 0 []
+unfolding chosen
+below_none f marks = record { few = omega arith; is = refl }
 
--- ---- by the tests of the code
+module _ {f : Files} {marks : List Bool} {i : ℕ} {l : List ℕ} (b : Below f marks i l) (h : i < 8) where
+  below_is : {c : Bool} → get_or marks i false ≡ c
+      → l ++ entries_bytes (cond c (entry_for f i ∷ []) [] ++ chosen_from f marks (i + 1) (8 - (i + 1))) ≡ entries_bytes (chosen f marks)
+  below_is {c} q =
+      ap (λ (d : Bool). l ++ entries_bytes (cond d (entry_for f i ∷ []) [] ++ chosen_from f marks (i + 1) (8 - (i + 1)))) (sym q)
+      ∙ ap (λ (es : List Entry). l ++ entries_bytes es) (sym (chosen_more f marks i h))
+      ∙ b.is
 
-pub stores_none : (p e : ℕ) (u : Run) → u.n ≡ 0 → run_stores p e u ≡ []
-unfolding run_stores
-stores_none p e u h = rw h
+  pub below_more : get_or marks i false ≡ true → Below f marks (i + 1) (l ++ entry_bytes (entry_for f i))
+  below_more q =
+      record {
+        few = simp length-append (omega (arith, b.few));
+        is = append_assoc l (entry_bytes (entry_for f i)) (entries_bytes (chosen_from f marks (i + 1) (8 - (i + 1)))) ∙ below_is q;
+      }
 
-module _ (img : List ℕ) (p e : ℕ) (u : Run) (some : u.n ≡ 0 → ⊥) where
-  pub stores_some : ran img (run_stores p e u) ≡ stored (stored img (program p (12 + (e + 4)) (take (8 * u.n) u.bytes))) (pair_store p e u.n)
-  unfolding run_stores
-  stores_some = rw (ne_eqb _ _ some)
+  pub below_same : get_or marks i false ≡ false → Below f marks (i + 1) l
+  below_same q = record { few = omega (arith, b.few); is = below_is q }
 
-  pub stores_past : 256 < e → ran img (run_stores p e u) ≡ img
-  stores_past h =
-      stores_some
-      ∙ stored_past (stored img (program p (12 + (e + 4)) (take (8 * u.n) u.bytes))) (pair_store p e u.n) (omega arith)
-      ∙ stored_past img (program p (12 + (e + 4)) (take (8 * u.n) u.bytes)) (omega arith)
-
-pub one_le : (b : Bool) → cond {A = ℕ} b 1 0 ≤ 1
-one_le true = omega arith
-one_le false = omega arith
-
--- what was counted, and what is marked among the rest, stays
-pub one_more : (n x y a b k : ℕ) → x ≡ y → a ≡ y + b → n + a ≡ k → n + x + b ≡ k
-one_more n x y a b k e f g = omega arith
-
-pub all_counted : (n a k : ℕ) → a ≡ 0 → n + a ≡ k → n ≡ k
-all_counted n a k e f = omega arith
+-- all of them
+pub below_all : {f : Files} {marks : List Bool} {l : List ℕ} → Below f marks 8 l → l ≡ entries_bytes (chosen f marks)
+below_all {f} {marks} {l} b = sym (append-nil l) ∙ b.is

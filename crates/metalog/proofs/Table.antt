@@ -19,10 +19,9 @@ use Rattle.page.proofs.Headers.{le16_fits, le32_fits}
 use Rattle.metalog.specs.declared.Entry.{Entry}
 use Rattle.metalog.specs.declared.Batch.{Batch}
 use Rattle.metalog.specs.declared.Batch.TheVariants.{End, Entries, Bad}
-use Rattle.metalog.specs.declared.LogEnd.TheVariants.{At}
+use Rattle.std.specs.Prelude.{Some}
 use Rattle.metalog.specs.declared.Files.{Files}
-use Rattle.metalog.specs.declared.Replay.{Replay}
-use Rattle.metalog.specs.Log.{batch_at, entry_of, entries, Log, ended, damaged, after, log_of, area_of, log_at, end_of, log_end, rest_erased, fits, sound, no_files, put_in, put, add, adds, fresh, replayed, replay_of}
+use Rattle.metalog.specs.Log.{Replay, batch_at, entry_of, entries, Log, ended, damaged, after, log_of, area_of, log_at, end_of, log_end, rest_erased, fits, sound, no_files, put_in, put, add, adds, fresh, replayed, replay_of}
 use Rattle.metalog.specs.Batch.{entry_for, chosen_from, chosen, batch_stores, end_after, new_meta_stores, Fit}
 use Rattle.metalog.proofs.Laws.{by_step, batch_room, adds_append}
 use Rattle.metalog.proofs.Pages.{area_length, batch_log, new_log, Ids}
@@ -370,11 +369,11 @@ pub record Ends (l : Log) (e : ℕ) : Type 0 where
   pub is : l ≡ ended list e
 
 -- the entries behind an end
-pub end_reads : (img : List ℕ) (p e : ℕ) → log_end img p ≡ At e → Ends (log_at img p) e
+pub end_reads : (img : List ℕ) (p e : ℕ) → log_end img p ≡ Some e → Ends (log_at img p) e
 unfolding log_end
 end_reads img p e h = by (log_at img p) h
   where
-    by : (l : Log) → end_of l ≡ At e → Ends l e
+    by : (l : Log) → end_of l ≡ Some e → Ends l e
     by (ended es f) h = let z : f ≡ e = cc in record { list = es; is = ap (ended es) z }
     by damaged h = let z : ◌≡◌ {A = ℕ} 0 1 = cc in absurd (omega arith)
 

@@ -1,3 +1,3 @@
 pub mod Log
 pub mod Batch
-pub mod Run
+pub mod Batches

@@ -1,16 +1,13 @@
 -- The log of a metadata page, by document 01, "Layout" and "Mount": what the bytes after the page's header say, as a list of
 -- entries and the offset where the log ends, or that they are damaged; and the replay of the entries.
 -- Assumes nothing.
-use Rattle.std.specs.Prelude.{ℕ, zero, suc, ◌+◌, ◌-◌, ◌*◌, List, [], ◌∷◌, ◌++◌, Bool, true, false, cond, ◌&&◌, length, drop, get_or, set, replicate, leb, ltb, eqb}
+use Rattle.std.specs.Prelude.{ℕ, zero, suc, ◌+◌, ◌-◌, ◌*◌, List, [], ◌∷◌, ◌++◌, Bool, true, false, cond, ◌&&◌, length, drop, get_or, set, replicate, leb, ltb, eqb, Option, Some, None}
 use Rattle.runs.specs.Runs.{part, part_of, le16, le32, all_erased}
 use Rattle.page.specs.Page.{page_of}
 use Rattle.metalog.specs.declared.Entry.{Entry}
 use Rattle.metalog.specs.declared.Batch.{Batch}
 use Rattle.metalog.specs.declared.Batch.TheVariants.{End, Entries, Bad}
-use Rattle.metalog.specs.declared.LogEnd.{LogEnd}
-use Rattle.metalog.specs.declared.LogEnd.TheVariants.{At, Damaged}
 use Rattle.metalog.specs.declared.Files.{Files}
-use Rattle.metalog.specs.declared.Replay.{Replay}
 
 -- where on its page the log begins, and how long it may become; the bytes of a count pair, and of an entry
 abbrev pub log_start : ℕ
@@ -85,17 +82,17 @@ area_of img p = part_of (page_of img p) log_start log_size
 abbrev pub log_at : List ℕ → ℕ → Log
 log_at img p = log_of (area_of img p)
 
--- where the log of page p ends
-abbrev pub end_of : Log → LogEnd
-end_of (ended es e) = At e
-end_of damaged = Damaged
+-- where the log of page p ends, if it can be read
+abbrev pub end_of : Log → Option ℕ
+end_of (ended es e) = Some e
+end_of damaged = None
 
 -- the answer in document 01's numbers: 0 and the offset, or 5, Damaged
-abbrev pub end_numbers : LogEnd → List ℕ
-end_numbers (At e) = 0 ∷ e ∷ []
-end_numbers Damaged = 5 ∷ []
+abbrev pub end_numbers : Option ℕ → List ℕ
+end_numbers (Some e) = 0 ∷ e ∷ []
+end_numbers None = 5 ∷ []
 
-unfoldable pub log_end : List ℕ → ℕ → LogEnd
+unfoldable pub log_end : List ℕ → ℕ → Option ℕ
 log_end img p = end_of (log_at img p)
 
 -- whether the rest of the page is all 0xFF, and whether a batch of n entries fits there
@@ -127,6 +124,11 @@ put_in f e =
 unfoldable pub put : Files → Entry → Files
 put f e = cond (ltb e.file 8) (put_in f e) f
 
+-- the files as the log left them, and whether it reads and every entry is sound
+pub record Replay : Type 0 where
+  pub ok : Bool
+  pub files : Files
+
 -- an unsound entry spoils the replay
 abbrev pub add : ℕ → Replay → Entry → Replay
 add count r e = record { ok = r.ok && sound count e; files = put r.files e }
@@ -134,6 +136,9 @@ add count r e = record { ok = r.ok && sound count e; files = put r.files e }
 abbrev pub adds : ℕ → Replay → List Entry → Replay
 adds count r [] = r
 adds count r (e ∷ es) = adds count (add count r e) es
+
+abbrev pub good : Files → Replay
+good f = record { ok = true; files = f }
 
 abbrev pub fresh : Bool → Replay
 fresh b = record { ok = b; files = no_files }
@@ -144,3 +149,7 @@ replayed count r damaged = fresh false
 
 unfoldable pub replay_of : ℕ → List ℕ → ℕ → Replay
 replay_of count img p = replayed count (fresh true) (log_at img p)
+
+-- what mount takes of it: the files, if all was sound
+abbrev pub taken : Replay → Option Files
+taken r = cond r.ok (Some r.files) None

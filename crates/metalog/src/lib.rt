@@ -2,11 +2,15 @@
 // entries. Every function is total: a page that the image has not has an empty log, and a store outside changes nothing.
 #![tactic(auto)]
 
-ghost use Rattle.std.specs.Prelude.{◌≡◌, true, cond, ◌&&◌, ◌*◌, ◌≤◌, ◌<◌, length};
+ghost use Rattle.std.specs.Prelude.{◌≡◌, true, cond, ◌&&◌, ◌*◌, ◌/◌, ◌≤◌, ◌<◌, length};
+ghost use Rattle.std.specs.Iterator.{at_most};
 ghost use Rattle.page.specs.Store.{stored, ran};
-ghost use Rattle.metalog.specs.Log.{entry_size, good_pair, batch_at, entry_of, entries, area_of, log_of, end_of, end_numbers, log_end, rest_erased, fits, sound, put, no_files, add, adds, fresh, replayed, replay_of};
-ghost use Rattle.metalog.specs.Batch.{entry_bytes, pair_bytes, entry_for, chosen, marked, batch_stores, new_meta_stores};
-ghost use Rattle.metalog.specs.Run.{added, added_if, run_of, run_stores};
+ghost use Rattle.metalog.specs.Log.{entry_size, good_pair, batch_at, entry_of, entries, area_of, log_of, end_of, log_end, rest_erased, fits, sound, put, no_files, add, adds, good, fresh, replayed, replay_of, taken};
+ghost use Rattle.metalog.specs.Batches.{FirstBatch};
+ghost use Rattle.metalog.specs.Batch.{entry_bytes, entries_bytes, pair_bytes, entry_for, chosen, marked, batch_stores, new_meta_stores};
+ghost use Rattle.arrayvec.specs.ArrayVec.{array_vec_len};
+
+use arrayvec::ArrayVec;
 
 const LOG_START: usize = 12;
 
@@ -16,6 +20,9 @@ const PAIR_SIZE: usize = 4;
 
 const ENTRY_SIZE: usize = 8;
 
+// The last page of a file that has none.
+const NO_PAGE: u16 = 65535;
+
 #[derive(Clone, Copy)]
 pub struct Entry {
     pub file: u8,
@@ -24,7 +31,8 @@ pub struct Entry {
     pub first: u32,
 }
 
-// What stands at a place of the log: its end, a batch of so many entries, or neither.
+// What stands at a place of the log: its end, a batch of so many entries, or neither. Three cases of one rank: in a
+// Result<Option<usize>, _> the end would be a batch that is missing, and no reader of it would use `?`.
 #[derive(Clone, Copy)]
 enum Batch {
     End,
@@ -32,14 +40,8 @@ enum Batch {
     Bad,
 }
 
-// Where the log ends, counted from its beginning.
-#[derive(Clone, Copy)]
-pub enum LogEnd {
-    At(usize),
-    Damaged,
-}
-
-// The eight files as entries say: last page, first_seq, flags.
+// The eight files as entries say: last page, first_seq, flags. An array for each field and no array of structs, since
+// the theorems of a commit and of what was reached speak of each field's list.
 #[derive(Clone, Copy)]
 pub struct Files {
     pub last: [u16; 8],
@@ -47,224 +49,217 @@ pub struct Files {
     pub flags: [u8; 8],
 }
 
-// The files as the log left them, and whether it reads and every entry is sound.
-#[derive(Clone, Copy)]
-pub struct Replay {
-    pub ok: bool,
-    pub files: Files,
+// The batches of a log in order: the bytes of each one's entries, or None for a bad one, behind which nothing is read.
+#[derive(Drop)]
+struct Batches<'a> {
+    rest: &'a [u8],
+}
+
+impl<'a> Iterator for Batches<'a> {
+    type Item = Option<&'a [u8]>;
+
+    ghost next_gives = { FirstBatch };
+
+    ghost remaining = { λ s. at_most (length s.rest.now) };
+
+    #[tactic(auto, using(crate::proofs::Laws::batch_room, crate::proofs::Laws::bad_room), unfolding(runs::specs::Runs::part))]
+    fn next(&mut self) -> Option<Option<&'a [u8]>> {
+        match batch_at(self.rest) {
+            Batch::End => None,
+            Batch::Bad => {
+                self.rest = &[];
+                Some(None)
+            }
+            Batch::Entries(n) => {
+                let (batch, rest) = self.rest.split_at(PAIR_SIZE + ENTRY_SIZE * n);
+                self.rest = rest;
+                Some(Some(&batch[PAIR_SIZE..]))
+            }
+        }
+    }
+}
+
+impl Entry {
+    // Bytes that are not there count as 0.
+    #[tactic(auto, unfolding(crate::specs::Log::entry_of))]
+    fn from_bytes(bs: &[u8]) -> Entry
+        ensures { result ≡ entry_of bs.now }
+    {
+        Entry {
+            file: runs::byte_at(bs, 0),
+            flags: runs::byte_at(bs, 1),
+            last: runs::u16_at(bs, 2),
+            first: runs::u32_at(bs, 4),
+        }
+    }
+
+    fn to_bytes(self) -> [u8; 8]
+        ensures { result ≡ entry_bytes self }
+    {
+        let [l0, l1] = self.last.to_le_bytes();
+        let [f0, f1, f2, f3] = self.first.to_le_bytes();
+        [self.file, self.flags, l0, l1, f0, f1, f2, f3]
+    }
+
+    // Whether mount takes it.
+    #[tactic(auto, unfolding(crate::specs::Log::sound))]
+    fn is_sound(self, count: usize) -> bool
+        ensures { result ≡ sound count self }
+    {
+        let reachable = if self.last == NO_PAGE {
+            self.first == 0
+        } else {
+            usize::from(self.last) < count
+        };
+        self.file < 8 && reachable
+    }
+}
+
+impl Files {
+    // Eight files without pages.
+    const NONE: Files = Files {
+        last: [NO_PAGE; 8],
+        first: [0; 8],
+        flags: [0; 8],
+    };
+
+    // With the entry in the place of its file's, if mount takes it.
+    #[tactic(auto, unfolding(crate::specs::Log::put, crate::specs::Log::sound))]
+    fn with(mut self, entry: Entry, count: usize) -> Option<Files>
+        ensures { result ≡ taken (add count (good self) entry) }
+    {
+        if !entry.is_sound(count) {
+            return None;
+        }
+        let i = usize::from(entry.file);
+        self.last[i] = entry.last;
+        self.first[i] = entry.first;
+        self.flags[i] = entry.flags;
+        Some(self)
+    }
+
+    // With all entries of a batch, in order.
+    #[tactic(auto, using(crate::proofs::Laws::entry_first, crate::proofs::Laws::entry_spoiled))]
+    fn with_batch(mut self, batch: &[u8], count: usize) -> Option<Files>
+        ensures { result ≡ taken (adds count (good self) (entries (length batch.now / entry_size) batch.now)) }
+    {
+        for entry in batch.chunks_exact(ENTRY_SIZE) {
+            self = self.with(Entry::from_bytes(entry), count)?;
+        }
+        Some(self)
+    }
+
+    fn entry(&self, i: usize) -> Entry
+        requires { i < 8 }
+        ensures { result ≡ entry_for self.now i }
+    {
+        Entry {
+            file: i as u8,
+            flags: self.flags[i],
+            last: self.last[i],
+            first: self.first[i],
+        }
+    }
+
+    // The bytes of the marked files' entries, in id order.
+    #[tactic(auto, using(crate::proofs::Runs::below_none, crate::proofs::Runs::below_more, crate::proofs::Runs::below_same, crate::proofs::Runs::below_all))]
+    fn marked_bytes(&self, marks: [bool; 8]) -> ArrayVec<u8, 64>
+        ensures { result.items ≡ entries_bytes (chosen self.now marks) }
+    {
+        let mut bytes = ArrayVec::new();
+        for i in 0..8 {
+            if marks[i] {
+                bytes
+                    .try_extend_from_slice(&self.entry(i).to_bytes())
+                    .unwrap();
+            }
+        }
+        bytes
+    }
 }
 
 // ---- reading
 
+#[tactic(auto, unfolding(crate::specs::Log::good_pair))]
 fn pair_good(n: u16, m: u16) -> bool
     ensures { result ≡ good_pair n m }
 {
-    if m != 65535 - n {
-        return false;
-    }
-    if n < 1 {
-        return false;
-    }
-    n <= 8
+    m == 65535 - n && 1 <= n && n <= 8
 }
 
+#[tactic(auto, unfolding(crate::specs::Log::batch_at, crate::specs::Log::batch_of))]
 fn batch_at(bs: &[u8]) -> Batch
     ensures { result ≡ batch_at bs.now }
 {
-    let left = bs.len();
-    if left < PAIR_SIZE {
-        return Batch::End;
-    }
-    if runs::u32_at(bs, 0) == 0xffff_ffff {
+    if bs.len() < PAIR_SIZE || runs::u32_at(bs, 0) == 0xffff_ffff {
         return Batch::End;
     }
     let n = runs::u16_at(bs, 0);
-    let m = runs::u16_at(bs, 2);
-    if pair_good(n, m) {
-        let k = n as usize;
-        if PAIR_SIZE + ENTRY_SIZE * k <= left {
-            return Batch::Entries(k);
-        }
-    }
-    Batch::Bad
-}
-
-fn entry_of(bs: &[u8]) -> Entry
-    ensures { result ≡ entry_of bs.now }
-{
-    Entry {
-        file: runs::byte_at(bs, 0),
-        flags: runs::byte_at(bs, 1),
-        last: runs::u16_at(bs, 2),
-        first: runs::u32_at(bs, 4),
+    let count = usize::from(n);
+    if pair_good(n, runs::u16_at(bs, 2)) && PAIR_SIZE + ENTRY_SIZE * count <= bs.len() {
+        Batch::Entries(count)
+    } else {
+        Batch::Bad
     }
 }
 
+#[tactic(auto, unfolding(crate::specs::Log::area_of))]
 fn area(image: &[u8], p: usize) -> &[u8]
     ensures { result.now ≡ area_of image.now p }
 {
     page::area_at(image, p, LOG_START, LOG_SIZE)
 }
 
-fn end_of(bs: &[u8]) -> LogEnd
-    ensures { result ≡ end_of (log_of bs.now) }
+// The batches of the log of page p.
+fn batches_of(image: &[u8], p: usize) -> Batches<'_>
+    ensures { result.rest.now ≡ area_of image.now p }
 {
-    let mut at = 0;
-    let mut rest = bs;
-    loop {
-        let b = batch_at(rest);
-        match b {
-            Batch::End => {
-                return LogEnd::At(at);
-            }
-            Batch::Bad => {
-                return LogEnd::Damaged;
-            }
-            Batch::Entries(n) => {
-                let size = PAIR_SIZE + ENTRY_SIZE * n;
-                at = at + size;
-                rest = &rest[size..];
-            }
-        }
+    Batches {
+        rest: area(image, p),
     }
 }
 
-// Where the log of page p ends, or that it cannot be read.
-pub fn log_end(image: &[u8], p: usize) -> LogEnd
-    ensures { end_numbers result ≡ end_numbers (log_end image.now p) }
+// Where the log of page p ends, counted from its beginning, if it can be read.
+#[tactic(auto, using(crate::proofs::Laws::end_first, crate::proofs::Laws::first_room, crate::proofs::Laws::end_end, crate::proofs::Laws::end_bad), unfolding(crate::specs::Log::log_end))]
+pub fn log_end(image: &[u8], p: usize) -> Option<usize>
+    ensures { result ≡ log_end image.now p }
 {
-    end_of(area(image, p))
+    let mut end = 0;
+    for batch in batches_of(image, p) {
+        end += PAIR_SIZE + batch?.len();
+    }
+    Some(end)
 }
 
 // Whether the page is all 0xFF from there on.
+#[tactic(auto, unfolding(crate::specs::Log::rest_erased))]
 pub fn rest_erased(image: &[u8], p: usize, end: usize) -> bool
     ensures { result ≡ rest_erased image.now p end }
 {
     let bs = area(image, p);
-    if bs.len() <= end {
-        return true;
-    }
-    runs::all_erased(&bs[end..])
+    runs::all_erased(&bs[end.min(bs.len())..])
 }
 
 // Whether a batch of n entries fits there.
+#[tactic(auto, unfolding(crate::specs::Log::fits))]
 pub fn fits(end: usize, n: usize) -> bool
     ensures { result ≡ fits end n }
 {
-    if LOG_SIZE < end {
-        return false;
-    }
-    if LOG_SIZE < n {
-        return false;
-    }
-    LOG_START + (end + (PAIR_SIZE + ENTRY_SIZE * n)) <= 256
+    end <= LOG_SIZE && n <= LOG_SIZE && LOG_START + (end + (PAIR_SIZE + ENTRY_SIZE * n)) <= 256
 }
 
 // ---- replay
 
-// Whether mount takes the entry.
-fn is_sound(e: Entry, count: usize) -> bool
-    ensures { result ≡ sound count e }
+// The files that the log of page p leaves, for an image of count pages, if it reads and mount takes every entry.
+#[tactic(auto, using(crate::proofs::Laws::replay_first, crate::proofs::Laws::replay_spoiled, crate::proofs::Laws::replay_end, crate::proofs::Laws::replay_bad), unfolding(crate::specs::Log::replay_of))]
+pub fn replay_at(image: &[u8], p: usize, count: usize) -> Option<Files>
+    ensures { result ≡ taken (replay_of count image.now p) }
 {
-    if 8 <= e.file {
-        return false;
+    let mut files = Files::NONE;
+    for batch in batches_of(image, p) {
+        files = files.with_batch(batch?, count)?;
     }
-    if e.last == 65535 {
-        return e.first == 0;
-    }
-    (e.last as usize) < count
-}
-
-fn both(a: bool, b: bool) -> bool
-    ensures { result ≡ (a && b) }
-{
-    if a { b } else { false }
-}
-
-fn no_files() -> Files
-    ensures { result ≡ no_files }
-{
-    Files {
-        last: [65535; 8],
-        first: [0; 8],
-        flags: [0; 8],
-    }
-}
-
-fn fresh(ok: bool) -> Replay
-    ensures { result ≡ fresh ok }
-{
-    let files = no_files();
-    Replay { ok, files }
-}
-
-fn put_entry(f: Files, e: Entry) -> Files
-    ensures { result ≡ put f e }
-{
-    let mut g = f;
-    let i = e.file as usize;
-    if 8 <= i {
-        return g;
-    }
-    g.last[i] = e.last;
-    g.first[i] = e.first;
-    g.flags[i] = e.flags;
-    g
-}
-
-fn add_one(r: Replay, e: Entry, count: usize) -> Replay
-    ensures { result ≡ add count r e }
-{
-    let f = r.files;
-    let files = put_entry(f, e);
-    let ok = both(r.ok, is_sound(e, count));
-    Replay { ok, files }
-}
-
-// The n entries of bs in order.
-fn add_all(r: Replay, bs: &[u8], n: usize, count: usize) -> Replay
-    requires { entry_size * n ≤ length bs.now }
-    ensures { result ≡ adds count r (entries n bs.now) }
-{
-    let mut s = r;
-    let mut rest = bs;
-    let mut k = n;
-    while 0 < k {
-        s = add_one(s, entry_of(rest), count);
-        rest = &rest[ENTRY_SIZE..];
-        k = k - 1;
-    }
-    s
-}
-
-fn replay_log(bs: &[u8], count: usize) -> Replay
-    ensures { result ≡ replayed count (fresh true) (log_of bs.now) }
-{
-    let mut s = fresh(true);
-    let mut rest = bs;
-    loop {
-        let b = batch_at(rest);
-        match b {
-            Batch::End => {
-                return s;
-            }
-            Batch::Bad => {
-                return fresh(false);
-            }
-            Batch::Entries(n) => {
-                let size = PAIR_SIZE + ENTRY_SIZE * n;
-                s = add_all(s, &rest[PAIR_SIZE..size], n, count);
-                rest = &rest[size..];
-            }
-        }
-    }
-}
-
-// The log of page p replayed, for an image of count pages.
-pub fn replay_at(image: &[u8], p: usize, count: usize) -> Replay
-    ensures { result ≡ replay_of count image.now p }
-{
-    replay_log(area(image, p), count)
+    Some(files)
 }
 
 // ---- the bytes of a batch
@@ -272,129 +267,37 @@ pub fn replay_at(image: &[u8], p: usize, count: usize) -> Replay
 fn pair_bytes(n: u16) -> [u8; 4]
     ensures { result ≡ pair_bytes n }
 {
-    [
-        (n % 256) as u8,
-        (n / 256 % 256) as u8,
-        ((65535 - n) % 256) as u8,
-        ((65535 - n) / 256 % 256) as u8,
-    ]
-}
-
-fn entry_bytes(e: Entry) -> [u8; 8]
-    ensures { result ≡ entry_bytes e }
-{
-    let l = e.last;
-    let f = e.first;
-    [
-        e.file,
-        e.flags,
-        (l % 256) as u8,
-        (l / 256 % 256) as u8,
-        (f % 256) as u8,
-        (f / 256 % 256) as u8,
-        (f / 65536 % 256) as u8,
-        (f / 16777216 % 256) as u8,
-    ]
+    let [n0, n1] = n.to_le_bytes();
+    let [m0, m1] = (65535 - n).to_le_bytes();
+    [n0, n1, m0, m1]
 }
 
 // How many files are marked.
+#[tactic(auto, using(crate::proofs::Runs::marked_count))]
 pub fn count_marked(marks: [bool; 8]) -> usize
     ensures { result ≡ marked marks }
 {
-    let mut n = 0;
-    let mut i = 0;
-    while i < 8 {
-        n += one_if(marks[i]);
-        i += 1;
-    }
-    n
-}
-
-fn one_if(d: bool) -> usize
-    ensures { result ≡ cond d 1 0 }
-{
-    if d { 1 } else { 0 }
-}
-
-// The bytes of up to eight entries, so many of which are there.
-#[derive(Clone, Copy)]
-struct Run {
-    bytes: [u8; 64],
-    n: usize,
-}
-
-fn file_entry(f: Files, i: usize) -> Entry
-    requires { i < 8 }
-    ensures { result ≡ entry_for f i }
-{
-    Entry {
-        file: i as u8,
-        flags: f.flags[i],
-        last: f.last[i],
-        first: f.first[i],
-    }
-}
-
-fn add_entry(u: Run, e: Entry) -> Run
-    requires { u.n < 8 }
-    ensures { result ≡ added u e }
-{
-    let mut bytes = u.bytes;
-    let n = u.n;
-    runs::place(&mut bytes, ENTRY_SIZE * n, &entry_bytes(e));
-    Run { bytes, n: n + 1 }
-}
-
-fn add_if(u: Run, e: Entry, d: bool) -> Run
-    requires { u.n < 8 }
-    ensures { result ≡ added_if d u e }
-{
-    if d { add_entry(u, e) } else { u }
-}
-
-fn batch_run(f: Files, marks: [bool; 8]) -> Run
-    ensures { result ≡ run_of f marks }
-{
-    let mut u = Run {
-        bytes: [0; 64],
-        n: 0,
-    };
-    let mut i = 0;
-    while i < 8 {
-        u = add_if(u, file_entry(f, i), marks[i]);
-        i += 1;
-    }
-    u
+    marks.iter().filter(|marked| **marked).count()
 }
 
 // ---- stores
 
-fn append_run(image: &mut [u8], p: usize, end: usize, u: Run)
-    requires { (u.n ≤ 8) × (length u.bytes ≡ 64) }
-    ensures { image.new ≡ ran image.old (run_stores p end u) }
-{
-    let n = u.n;
-    if n == 0 {
-        return;
-    }
-    if 256 < end {
-        return;
-    }
-    let bytes = u.bytes;
-    let size = ENTRY_SIZE * n;
-    page::program(image, p, LOG_START + (end + PAIR_SIZE), &bytes[..size]);
-    page::program(image, p, LOG_START + end, &pair_bytes(n as u16));
-}
-
 // Appends a batch of the marked files, in id order, where the log ends: entries, then the count pair.
+#[tactic(auto, using(crate::proofs::Runs::stores_none, crate::proofs::Runs::stores_some, crate::proofs::Runs::stores_past))]
 pub fn append_batch(image: &mut [u8], p: usize, end: usize, f: Files, marks: [bool; 8])
     ensures { image.new ≡ ran image.old (batch_stores p end (chosen f marks)) }
 {
-    let u = batch_run(f, marks);
-    append_run(image, p, end, u);
+    let entries = f.marked_bytes(marks);
+    if entries.is_empty() || 256 < end {
+        return;
+    }
+    let n = entries.len() / ENTRY_SIZE;
+    page::program(image, p, LOG_START + (end + PAIR_SIZE), &entries);
+    page::program(image, p, LOG_START + end, &pair_bytes(n as u16));
 }
 
 // Makes p a metadata page with the marked files: erase, entries, count pair, page header last.
+#[tactic(auto, using(page::proofs::Laws::ran_append), unfolding(crate::specs::Batch::new_meta_stores))]
 pub fn store_new_meta(image: &mut [u8], p: usize, m: page::MetaHeader, f: Files, marks: [bool; 8])
     ensures { image.new ≡ ran image.old (new_meta_stores p m (chosen f marks)) }
 {
