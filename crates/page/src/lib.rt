@@ -2,10 +2,12 @@
 // 256 p on. Every function is total: a page that the image has not is unreadable, and a store outside changes nothing.
 #![tactic(auto)]
 
-ghost use Rattle.std.specs.Prelude.{◌≡◌, ◌+◌};
-ghost use Rattle.runs.specs.Runs.{part_of};
+ghost use Rattle.std.specs.Prelude.{◌≡◌, ◌+◌, ◌*◌, ◌<◌};
+ghost use Rattle.runs.specs.Runs.{le16, part_of};
 ghost use Rattle.page.specs.Page.{page_of, begins, pair_reads, fields, fields_of, header_of, gives, gives_back, meta_of, pairs, header_bytes, meta_bytes};
 ghost use Rattle.page.specs.Store.{erase, program, stored, ran, data_stores, meta_store};
+
+use std::array;
 
 const DATA_MAGIC: u32 = 0x7fcb_f35d;
 
@@ -78,17 +80,7 @@ fn pair_reads(pg: &[u8]) -> bool
 fn links_of(pg: &[u8]) -> [u16; 9]
     ensures { result ≡ fields pg.now 8 9 }
 {
-    [
-        runs::u16_at(pg, 8),
-        runs::u16_at(pg, 10),
-        runs::u16_at(pg, 12),
-        runs::u16_at(pg, 14),
-        runs::u16_at(pg, 16),
-        runs::u16_at(pg, 18),
-        runs::u16_at(pg, 20),
-        runs::u16_at(pg, 22),
-        runs::u16_at(pg, 24),
-    ]
+    array::from_fn(|i| runs::u16_at(pg, 8 + 2 * i))
 }
 
 fn fields_of(pg: &[u8]) -> DataHeader
