@@ -9,6 +9,13 @@ ghost use Rattle.page.specs.Store.{erase, program, stored, ran, data_stores, met
 
 use std::array;
 
+pub const PAGE_SIZE: usize = 256;
+
+// A data page is its header and behind it its payload.
+pub const HEADER_SIZE: usize = 32;
+
+pub const PAYLOAD_SIZE: usize = PAGE_SIZE - HEADER_SIZE;
+
 const DATA_MAGIC: u32 = 0x7fcb_f35d;
 
 const META_MAGIC: u32 = 0x1d81_bcde;
@@ -48,33 +55,25 @@ pub struct PageView<'a> {
 pub fn page_of(image: &[u8], p: usize) -> &[u8]
     ensures { result.now ≡ page_of image.now p }
 {
-    if p < image.len() / 256 {
-        &image[p * 256..p * 256 + 256]
+    if p < image.len() / PAGE_SIZE {
+        &image[p * PAGE_SIZE..p * PAGE_SIZE + PAGE_SIZE]
     } else {
-        &image[..0]
+        &[]
     }
 }
 
+#[tactic(auto, unfolding(crate::specs::Page::begins))]
 fn begins(pg: &[u8], magic: u32) -> bool
     ensures { result ≡ begins pg.now magic }
 {
-    if pg.len() != 256 {
-        return false;
-    }
-    runs::u32_at(pg, 0) == magic
+    pg.len() == PAGE_SIZE && runs::u32_at(pg, 0) == magic
 }
 
 fn pair_reads(pg: &[u8]) -> bool
     ensures { result ≡ pair_reads pg.now }
 {
     let n = runs::u16_at(pg, 28);
-    if runs::u16_at(pg, 30) != 65535 - n {
-        return false;
-    }
-    if n < 1 {
-        return false;
-    }
-    n <= 224
+    runs::u16_at(pg, 30) == u16::MAX - n && (1..=224).contains(&n)
 }
 
 fn links_of(pg: &[u8]) -> [u16; 9]
@@ -203,10 +202,11 @@ pub fn area_at(image: &[u8], p: usize, at: usize, n: usize) -> &[u8]
 pub fn payload_at(image: &[u8], p: usize, off: usize, n: usize) -> &[u8]
     ensures { result.now ≡ part_of (page_of image.now p) (32 + off) n }
 {
-    if 224 < off {
-        return &image[..0];
+    if off <= PAYLOAD_SIZE {
+        area_at(image, p, HEADER_SIZE + off, n)
+    } else {
+        &[]
     }
-    area_at(image, p, 32 + off, n)
 }
 
 // ---- bytes of headers
@@ -222,10 +222,10 @@ fn links_bytes(links: [u16; 9]) -> [u8; 18]
 }
 
 #[tactic(auto, unfolding(crate::specs::Page::header_bytes))]
-fn header_bytes(h: DataHeader) -> [u8; 32]
+fn header_bytes(h: DataHeader) -> [u8; HEADER_SIZE]
     ensures { result ≡ header_bytes h }
 {
-    let mut bytes = [0; 32];
+    let mut bytes = [0; HEADER_SIZE];
     bytes[..4].copy_from_slice(&DATA_MAGIC.to_le_bytes());
     bytes[4..8].copy_from_slice(&h.seq.to_le_bytes());
     bytes[8..26].copy_from_slice(&links_bytes(h.skiplist));
@@ -252,8 +252,8 @@ fn meta_bytes(m: MetaHeader) -> [u8; 12]
 pub fn erase(image: &mut [u8], p: usize)
     ensures { image.new ≡ stored image.old (erase p) }
 {
-    if p < image.len() / 256 {
-        runs::fill(&mut image[p * 256..p * 256 + 256], 255);
+    if p < image.len() / PAGE_SIZE {
+        image[p * PAGE_SIZE..p * PAGE_SIZE + PAGE_SIZE].fill(0xFF);
     }
 }
 
@@ -261,16 +261,10 @@ pub fn erase(image: &mut [u8], p: usize)
 pub fn program(image: &mut [u8], p: usize, off: usize, run: &[u8])
     ensures { image.new ≡ stored image.old (program p off run.now) }
 {
-    if image.len() / 256 <= p {
-        return;
+    if p < image.len() / PAGE_SIZE {
+        let page = &mut image[p * PAGE_SIZE..p * PAGE_SIZE + PAGE_SIZE];
+        runs::place(page, off, run);
     }
-    if 256 < off {
-        return;
-    }
-    if 256 - off < run.len() {
-        return;
-    }
-    runs::place(image, p * 256 + off, run);
 }
 
 // Stores a data page: erase, payload, header.
@@ -278,7 +272,7 @@ pub fn store_data(image: &mut [u8], p: usize, h: DataHeader, payload: &[u8])
     ensures { image.new ≡ ran image.old (data_stores p h payload.now) }
 {
     erase(image, p);
-    program(image, p, 32, payload);
+    program(image, p, HEADER_SIZE, payload);
     program(image, p, 0, &header_bytes(h));
 }
 
