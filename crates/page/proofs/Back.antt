@@ -5,7 +5,7 @@ use mathlib.Core.Path.{◌≡◌, refl, ap, ◌∙◌}
 use mathlib.Core.List.{List, [], ◌∷◌, ◌++◌}
 use native.Mathlib.Omega.{arith}
 use borrow.Author.Rules.{rules}
-use lib.ListN.{length, drop, replicate, length-append, length-drop, length-replicate}
+use lib.ListN.{length, take, drop, replicate, length-append, length-drop, length-replicate}
 use lib.Seq.{take-append_seam, drop_at}
 use Rattle.runs.specs.Runs.{part, splice}
 use Rattle.runs.proofs.Laws.{drop_replicate}
@@ -80,6 +80,10 @@ module _ (img : List ℕ) (p : ℕ) (pay : List ℕ) where
 
   pub payload_meta : meta_of (page_of (ran img (erase p ∷ program p 32 pay ∷ [])) p) ≡ None
   payload_meta = blank_meta img p (program p 32 pay ∷ []) (omega arith, tt)
+
+  -- so a data page that is stored reads only once its last store is made
+  pub header_last : (h : DataHeader) → header_of (page_of (ran img (take 2 (data_stores p h pay))) p) ≡ unreadable
+  header_last h = payload_header
 
 -- ---- a stored data page
 

@@ -8,10 +8,12 @@ use native.Mathlib.Decide.{dec_le, ℕ_discrete}
 use native.Mathlib.Nat.{lt_of_not-le, not-suc-le-zero, le_of_suc-le-suc}
 use native.Mathlib.Omega.{arith}
 use lib.ListN.{length, take, drop, get_or, replicate}
-use lib.Seq.{take-take}
+use lib.Seq.{take-take, drop-drop}
+use borrow.Rule.Slice.PartMut.{put_mid}
+use Rattle.std.proofs.lemmas.List.{take-append-drop}
 use borrow.Author.Tests.{lt-ltb, le-ltb, le-leb, lt-leb}
-use Rattle.runs.specs.Runs.{part, part_of, splice}
-use Rattle.runs.proofs.Laws.{length_splice, take_splice, length_part, part_before, part_after, part_inside, part_of_in, splice_all, drop_replicate}
+use Rattle.runs.specs.Runs.{part, part_of, splice, placed}
+use Rattle.runs.proofs.Laws.{length_splice, take_splice, drop_splice, length_part, placed_in, placed_out, part_before, part_after, part_inside, part_of_in, splice_all, drop_replicate}
 use Rattle.page.specs.Page.{page_of, Bytes}
 use Rattle.page.specs.Store.{Store, erase, program, page_at, off_at, run_at, stored, ran, Cleans}
 
@@ -88,6 +90,26 @@ module _ (img : List ℕ) (s : Store) where
   same_page h k =
       rw (stored_length, lt-ltb _ _ h, stored_in h k)
       (part_inside img (page_at s * 256) (off_at s) (run_at s) 256 (omega arith) k)
+
+-- a part lent from l, given back as the part of m, where l and m are the same on both sides of it
+put_part : (l m : List ℕ) (a n : ℕ) → take a m ≡ take a l → drop (a + n) m ≡ drop (a + n) l → put_mid a n l (part m a n) ≡ m
+unfolding part
+put_part l m a n t d =
+    let e : drop n (drop a m) ≡ drop n (drop a l) = drop-drop n a m ∙ d ∙ sym (drop-drop n a l) in
+    rw (← t, ← e, take-append-drop, take-append-drop)
+
+-- a page lent from the image, given back with the run in it where it fits there
+pub page_put : (img : List ℕ) (s : Store) → page_at s < length img / 256
+    → put_mid (page_at s * 256) 256 img (placed (part img (page_at s * 256) 256) (off_at s) (run_at s)) ≡ stored img s
+page_put img s h =
+    let a = page_at s * 256 in
+    let o = off_at s in
+    let r = run_at s in
+    let n : length (part img (page_at s * 256) 256) ≡ 256 = length_part img a 256 (omega arith) in
+    split (off_at s + length (run_at s)) 256
+    (λ k. rw (placed_in (part img a 256) o r (omega arith), ← part_inside img a o r 256 (omega arith) k, stored_in img s h k)
+    (put_part img (splice img (a + o) r) a 256 (take_splice img (a + o) r a (omega arith) (omega arith)) (drop_splice img (a + o) r (a + 256) (omega arith) (omega arith))))
+    (λ k. rw (placed_out (part img a 256) o r (omega arith), stored_past img s k) (put_part img img a 256 refl refl))
 
 -- any page after a store is the page as it was, or the store's own page with the run in it
 pub page_by_lem : (P : List ℕ → Type 0) (img : List ℕ) (s : Store) (q : ℕ) → P (page_of img q)

@@ -2,10 +2,19 @@
 // 256 p on. Every function is total: a page that the image has not is unreadable, and a store outside changes nothing.
 #![tactic(auto)]
 
-ghost use Rattle.std.specs.Prelude.{◌≡◌, ◌+◌};
-ghost use Rattle.runs.specs.Runs.{part_of};
+ghost use Rattle.std.specs.Prelude.{◌≡◌, ◌+◌, ◌*◌, ◌<◌};
+ghost use Rattle.runs.specs.Runs.{le16, part_of};
 ghost use Rattle.page.specs.Page.{page_of, begins, pair_reads, fields, fields_of, header_of, gives, gives_back, meta_of, pairs, header_bytes, meta_bytes};
 ghost use Rattle.page.specs.Store.{erase, program, stored, ran, data_stores, meta_store};
+
+use std::array;
+
+pub const PAGE_SIZE: usize = 256;
+
+// A data page is its header and behind it its payload.
+pub const HEADER_SIZE: usize = 32;
+
+pub const PAYLOAD_SIZE: usize = PAGE_SIZE - HEADER_SIZE;
 
 const DATA_MAGIC: u32 = 0x7fcb_f35d;
 
@@ -46,49 +55,31 @@ pub struct PageView<'a> {
 pub fn page_of(image: &[u8], p: usize) -> &[u8]
     ensures { result.now ≡ page_of image.now p }
 {
-    if p < image.len() / 256 {
-        &image[p * 256..p * 256 + 256]
+    if p < image.len() / PAGE_SIZE {
+        &image[p * PAGE_SIZE..p * PAGE_SIZE + PAGE_SIZE]
     } else {
-        &image[..0]
+        &[]
     }
 }
 
+#[tactic(auto, unfolding(crate::specs::Page::begins))]
 fn begins(pg: &[u8], magic: u32) -> bool
     ensures { result ≡ begins pg.now magic }
 {
-    if pg.len() != 256 {
-        return false;
-    }
-    runs::u32_at(pg, 0) == magic
+    pg.len() == PAGE_SIZE && runs::u32_at(pg, 0) == magic
 }
 
 fn pair_reads(pg: &[u8]) -> bool
     ensures { result ≡ pair_reads pg.now }
 {
     let n = runs::u16_at(pg, 28);
-    if runs::u16_at(pg, 30) != 65535 - n {
-        return false;
-    }
-    if n < 1 {
-        return false;
-    }
-    n <= 224
+    runs::u16_at(pg, 30) == u16::MAX - n && (1..=224).contains(&n)
 }
 
 fn links_of(pg: &[u8]) -> [u16; 9]
     ensures { result ≡ fields pg.now 8 9 }
 {
-    [
-        runs::u16_at(pg, 8),
-        runs::u16_at(pg, 10),
-        runs::u16_at(pg, 12),
-        runs::u16_at(pg, 14),
-        runs::u16_at(pg, 16),
-        runs::u16_at(pg, 18),
-        runs::u16_at(pg, 20),
-        runs::u16_at(pg, 22),
-        runs::u16_at(pg, 24),
-    ]
+    array::from_fn(|i| runs::u16_at(pg, 8 + 2 * i))
 }
 
 fn fields_of(pg: &[u8]) -> DataHeader
@@ -211,10 +202,11 @@ pub fn area_at(image: &[u8], p: usize, at: usize, n: usize) -> &[u8]
 pub fn payload_at(image: &[u8], p: usize, off: usize, n: usize) -> &[u8]
     ensures { result.now ≡ part_of (page_of image.now p) (32 + off) n }
 {
-    if 224 < off {
-        return &image[..0];
+    if off <= PAYLOAD_SIZE {
+        area_at(image, p, HEADER_SIZE + off, n)
+    } else {
+        &[]
     }
-    area_at(image, p, 32 + off, n)
 }
 
 // ---- bytes of headers
@@ -230,10 +222,10 @@ fn links_bytes(links: [u16; 9]) -> [u8; 18]
 }
 
 #[tactic(auto, unfolding(crate::specs::Page::header_bytes))]
-fn header_bytes(h: DataHeader) -> [u8; 32]
+fn header_bytes(h: DataHeader) -> [u8; HEADER_SIZE]
     ensures { result ≡ header_bytes h }
 {
-    let mut bytes = [0; 32];
+    let mut bytes = [0; HEADER_SIZE];
     bytes[..4].copy_from_slice(&DATA_MAGIC.to_le_bytes());
     bytes[4..8].copy_from_slice(&h.seq.to_le_bytes());
     bytes[8..26].copy_from_slice(&links_bytes(h.skiplist));
@@ -260,8 +252,8 @@ fn meta_bytes(m: MetaHeader) -> [u8; 12]
 pub fn erase(image: &mut [u8], p: usize)
     ensures { image.new ≡ stored image.old (erase p) }
 {
-    if p < image.len() / 256 {
-        runs::fill(&mut image[p * 256..p * 256 + 256], 255);
+    if p < image.len() / PAGE_SIZE {
+        image[p * PAGE_SIZE..p * PAGE_SIZE + PAGE_SIZE].fill(0xFF);
     }
 }
 
@@ -269,16 +261,10 @@ pub fn erase(image: &mut [u8], p: usize)
 pub fn program(image: &mut [u8], p: usize, off: usize, run: &[u8])
     ensures { image.new ≡ stored image.old (program p off run.now) }
 {
-    if image.len() / 256 <= p {
-        return;
+    if p < image.len() / PAGE_SIZE {
+        let page = &mut image[p * PAGE_SIZE..p * PAGE_SIZE + PAGE_SIZE];
+        runs::place(page, off, run);
     }
-    if 256 < off {
-        return;
-    }
-    if 256 - off < run.len() {
-        return;
-    }
-    runs::place(image, p * 256 + off, run);
 }
 
 // Stores a data page: erase, payload, header.
@@ -286,7 +272,7 @@ pub fn store_data(image: &mut [u8], p: usize, h: DataHeader, payload: &[u8])
     ensures { image.new ≡ ran image.old (data_stores p h payload.now) }
 {
     erase(image, p);
-    program(image, p, 32, payload);
+    program(image, p, HEADER_SIZE, payload);
     program(image, p, 0, &header_bytes(h));
 }
 

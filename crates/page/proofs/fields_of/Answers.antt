@@ -1,4 +1,4 @@
--- `page::fields_of` meets its contract.
+-- `page::fields_of` meets its contract. Written out, so that a field of the wrong bytes is refused here, by its equation.
 -- Assumes nothing.
 use Rattle.page.specs.Page.{fields_of}
 use Rattle.page.proofs.fields_of.Goals as goal

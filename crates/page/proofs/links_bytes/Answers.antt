@@ -3,7 +3,7 @@
 use Rattle.page.proofs.Headers.{links_more}
 use Rattle.std.proofs.Common.{rules}
 use native.Mathlib.Omega.{arith}
-use mathlib.Core.Path.{◌≡◌, ◌∙◌}
+use mathlib.Core.Path.{◌≡◌}
 use Prim.Native.Nat.{◌+◌, ◌-◌, ◌*◌}
 use Rattle.page.proofs.links_bytes.Goals as goal
 

@@ -8,8 +8,8 @@ use native.Mathlib.Omega.{arith}
 use mathlib.Core.Path.{sym}
 use Rattle.page.proofs.payload_at.Goals as goal
 
-pub returns-then-off-gt224 : goal.returns-then-off-gt224
-returns-then-off-gt224 c =
+pub returns-else-off-le-PAYLOAD_SIZE : goal.returns-else-off-le-PAYLOAD_SIZE
+returns-else-off-le-PAYLOAD_SIZE c =
     let a = c.args in
     let m = page_most a.image.now a.p in
     sym (part_of_out (page_of a.image.now a.p) (32 + a.off) a.n (omega arith))

@@ -1,25 +1,17 @@
 -- `page::program` meets its contract.
 -- Assumes nothing.
 use Rattle.page.specs.Store.{program}
-use Rattle.runs.proofs.Laws.{placed_in}
-use Rattle.page.proofs.Laws.{stored_in, stored_out, stored_past}
-use native.Mathlib.Omega.{arith}
-use Prim.Native.Nat.{◌+◌, ◌*◌}
-use mathlib.Core.Path.{sym, ◌∙◌}
+use Rattle.runs.specs.Runs.{part}
+use Rattle.page.proofs.Laws.{page_put, stored_out}
+use native.Mathlib.Nat.{add-sub_cancel_left}
+use mathlib.Core.Path.{sym}
 use Rattle.page.proofs.program.Goals as goal
 
-pub returns-then-image-p : goal.returns-then-image-p
-returns-then-image-p c = let a = c.args in sym (stored_out a.image.now (program a.p a.off a.run.now) c.if-image-p.true)
-
-pub returns-then-off-gt256 : goal.returns-then-off-gt256
-returns-then-off-gt256 c = let a = c.args in sym (stored_past a.image.now (program a.p a.off a.run.now) (omega arith))
-
-pub returns-then-off-run : goal.returns-then-off-run
-returns-then-off-run c = let a = c.args in sym (stored_past a.image.now (program a.p a.off a.run.now) (omega arith))
-
-pub returns : goal.returns
-returns c =
+pub returns-then-p-image : goal.returns-then-p-image
+unfolding part
+returns-then-p-image c =
     let a = c.args in
-    c.place.ensures
-    ∙ placed_in a.image.now (a.p * 256 + a.off) a.run.now (omega arith)
-    ∙ sym (stored_in a.image.now (program a.p a.off a.run.now) (omega arith) (omega arith))
+    rw (c.place.ensures, add-sub_cancel_left) (page_put a.image.now (program a.p a.off a.run.now) c.if-p-image.true)
+
+pub returns-else-p-image : goal.returns-else-p-image
+returns-else-p-image c = let a = c.args in sym (stored_out a.image.now (program a.p a.off a.run.now) c.if-p-image.false)
