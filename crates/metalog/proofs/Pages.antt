@@ -1,6 +1,7 @@
 -- The log on a page of an image: what a batch's stores, and those of a new metadata page, leave there after each of them, and that
 -- they program erased bytes only.
 -- Assumes nothing.
+use Rattle.std.specs.Prelude.{Some, None}
 use Prim.Native.Nat.{ℕ, zero, suc, ◌+◌, ◌-◌, ◌*◌, ◌/◌, ◌≤◌, ◌<◌}
 use mathlib.Core.Path.{◌≡◌, refl, sym, ap, ap₂, ◌∙◌}
 use mathlib.Core.List.{List, [], ◌∷◌, ◌++◌, append-nil}
@@ -13,7 +14,6 @@ use borrow.Author.Tests.{ne_eqb, eqb-true, leb-true, le-leb}
 use Rattle.runs.specs.Runs.{part, part_of, splice, all_erased}
 use Rattle.runs.proofs.Laws.{cond_by, drop_replicate, length_part, part_of_in}
 use Rattle.page.specs.declared.MetaHeader.{MetaHeader}
-use Rattle.page.specs.declared.MetaRead.TheVariants.{Found, Missing}
 use Rattle.page.specs.Page.{page_of, unreadable, header_of, meta_of, Bytes, Fits}
 use Rattle.page.specs.Store.{Store, erase, program, stored, ran, meta_store, Clean, Cleans}
 use Rattle.page.proofs.Laws.{page_length, stored_length, ran_length, ran_append, ran_keeps, Every, On, others, Behind, take_replicate, area_erased, area_stored, area_after, cleans_append, OfBytes, bytes_replicate}
@@ -320,7 +320,7 @@ module _ (img : List ℕ) (p : ℕ) (m : MetaHeader) (b : List Entry) where
         ∙ ap (λ (t : List Store). erase p ∷ t) (take-append-le (k - 1) l (meta_store p m ∷ []) (omega arith))
 
     -- no metadata
-    pub new_missing : meta_of (page_of (ran img (take k (new_meta_stores p m b))) p) ≡ Missing
+    pub new_missing : meta_of (page_of (ran img (take k (new_meta_stores p m b))) p) ≡ None
     new_missing =
         ap (λ (l : List Store). meta_of (page_of (ran img l) p)) prefix
         ∙ blank_meta img p (take (k - 1) (batch_stores p 0 b)) (every_take (Behind 4) (k - 1) (batch_stores p 0 b) (batch_behind p 0 b 4 (omega arith)))
@@ -359,7 +359,7 @@ module _ (img : List ℕ) (p : ℕ) (m : MetaHeader) (b : List Entry) where
     area = ap (λ (i : List ℕ). area_of i p) image ∙ area_header filled p m
 
     -- then it reads as metadata
-    pub new_meta : Fits m → meta_of (page_of (ran img (new_meta_stores p m b)) p) ≡ Found m
+    pub new_meta : Fits m → meta_of (page_of (ran img (new_meta_stores p m b)) p) ≡ Some m
     new_meta w = ap (λ (i : List ℕ). meta_of (page_of i p)) image ∙ meta_stored filled p m inside_two w
 
     -- with exactly these entries

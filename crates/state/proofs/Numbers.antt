@@ -9,7 +9,8 @@ use lib.Dec.{eqb}
 use lib.ListN.{get_or}
 use Rattle.state.specs.declared.types.Refusal.{Refusal}
 use Rattle.state.specs.declared.types.Refusal.TheVariants.{BadSize, NotMounted, Busy, BadFile, Damaged, Eof, Short, NoRoom, SeqEnd, NoSearch, Gone, Range}
-use Rattle.state.specs.declared.types.Out.{Out}
+use Rattle.state.specs.declared.types.Table.{Table}
+use Rattle.state.specs.declared.types.State.{State}
 use Rattle.state.specs.Refusals.{number, numbers, asked_numbers, whether_numbers, Done, fine}
 use Rattle.state.specs.World.{World, Outcome, After, after_call, after, in_numbers, yields, promised}
 
@@ -84,5 +85,6 @@ outcome_same {A} f same x y e =
     ap (λ (z : A). record { answer = z; world = x.world }) a ∙ ap (λ (z : World). record { answer = y.answer; world = z }) w
 
 -- a promise kept in numbers is kept
-pub promise_same : (call : World → Outcome Done) (w : World) (r : Out) (i m : List ℕ) → yields r i m ≡ promised call w → after r i m ≡ after_call call w
-promise_same call w r i m e = outcome_same numbers numbers_same (after r i m) (after_call call w) e
+pub promise_same : (call : World → Outcome Done) (w : World) (a : Done) (i m : List ℕ) (t : Table) (s : State)
+    → yields a i m t s ≡ promised call w → after a i m t s ≡ after_call call w
+promise_same call w a i m t s e = outcome_same numbers numbers_same (after a i m t s) (after_call call w) e

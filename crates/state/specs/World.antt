@@ -4,7 +4,6 @@ use Rattle.page.specs.Store.{Store, ran}
 use Rattle.state.specs.declared.types.Table.{Table}
 use Rattle.state.specs.declared.types.State.{State}
 use Rattle.state.specs.declared.types.Refusal.{Refusal}
-use Rattle.state.specs.declared.types.Out.{Out}
 use Rattle.state.specs.Checks.{checks}
 use Rattle.state.specs.Refusals.{numbers, on_done, Done}
 
@@ -47,13 +46,14 @@ refuse w why = kept w (Err why)
 abbrev pub checked {ℓ} : {A : Type ℓ} → World → Bool → ℕ → (Refusal → A) → A → A
 checked w busy file refuse go = on_done (checks (length w.image) (length w.map) w.state busy file) refuse go
 
--- ---- the world of a call's arguments, and of what it hands back
+-- ---- the world of a call's arguments, and what it leaves
 
 abbrev pub before : List ℕ → List ℕ → Table → State → World
 before i m t s = record { image = i; map = m; table = t; state = s }
 
-abbrev pub after : Out → List ℕ → List ℕ → After Done
-after r i m = record { answer = r.answer; world = before i m r.table r.state }
+-- its answer, and image, map, table and state as it leaves them
+abbrev pub after : {A : Type 0} → A → List ℕ → List ℕ → Table → State → After A
+after a i m t s = record { answer = a; world = before i m t s }
 
 -- ---- the same in document 01's numbers: what the promises speak of
 
@@ -61,9 +61,9 @@ after r i m = record { answer = r.answer; world = before i m r.table r.state }
 abbrev pub in_numbers : {A : Type 0} → (A → List ℕ) → After A → After (List ℕ)
 in_numbers f a = record { answer = f a.answer; world = a.world }
 
--- what a call hands back and leaves
-abbrev pub yields : Out → List ℕ → List ℕ → After (List ℕ)
-yields r i m = in_numbers numbers (after r i m)
+-- what a call answers and leaves
+abbrev pub yields : Done → List ℕ → List ℕ → Table → State → After (List ℕ)
+yields a i m t s = in_numbers numbers (after a i m t s)
 
 -- what its definition gives
 abbrev pub promised : (World → Outcome Done) → World → After (List ℕ)

@@ -93,11 +93,3 @@ pub enum Refusal {
     Gone,
     Range,
 }
-
-// What a call hands back: its answer, and table and state as they are then.
-#[derive(Clone, Copy)]
-pub struct Out {
-    pub answer: Result<(), Refusal>,
-    pub table: Table,
-    pub state: State,
-}
