@@ -139,18 +139,15 @@ impl DataHeader {
 
 impl BackRead {
     // Of the same header, what a step back asks: a walk of many pages copies no headers.
-    #[tactic(auto, unfolding(crate::specs::Page::header_of, crate::specs::Page::gives_back, crate::specs::Page::fields_of))]
+    #[tactic(auto, using(crate::proofs::Headers::given_read, crate::proofs::Headers::given_none), unfolding(crate::specs::Page::gives_back))]
     fn from_page(pg: &[u8]) -> Option<BackRead>
         ensures { result ≡ gives_back (header_of pg.now) }
     {
-        if begins(pg, DATA_MAGIC) && pair_reads(pg) {
-            Some(BackRead {
-                seq: runs::u32_at(pg, 4),
-                link: runs::u16_at(pg, 8),
-            })
-        } else {
-            None
-        }
+        let h = DataHeader::from_page(pg)?;
+        Some(BackRead {
+            seq: h.seq,
+            link: h.skiplist[0],
+        })
     }
 }
 
