@@ -75,7 +75,7 @@ fn pair_reads(pg: &[u8]) -> bool
     ensures { result ≡ pair_reads pg.now }
 {
     let n = runs::u16_at(pg, 28);
-    runs::u16_at(pg, 30) == u16::MAX - n && (1..=PAYLOAD_SIZE).contains(&usize::from(n))
+    runs::u16_at(pg, 30) == u16::MAX - n && (1..=PAYLOAD_SIZE as u16).contains(&n)
 }
 
 fn links_of(pg: &[u8]) -> [u16; 9]
