@@ -19,7 +19,7 @@ use Rattle.map.specs.Map.{alloc_of, released, unheld, free, held, used}
 use Rattle.map.proofs.Laws.{split, alloc_found, released_at}
 use Rattle.metalog.specs.declared.Entry.{Entry}
 use Rattle.metalog.specs.declared.Files.{Files}
-use Rattle.metalog.specs.declared.Replay.{Replay}
+use Rattle.metalog.specs.Log.{Replay}
 use Rattle.metalog.specs.Log.{log_end, rest_erased, fits, sound, adds, fresh, replay_of}
 use Rattle.metalog.specs.Batch.{entry_for, batch_stores}
 use Rattle.metalog.proofs.Runs.{chosen_few}

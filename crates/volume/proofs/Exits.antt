@@ -16,7 +16,7 @@ use Rattle.page.specs.declared.DataHeader.{DataHeader}
 use Rattle.page.specs.Page.{readable, gives}
 use Rattle.page.proofs.Headers.{given_read, given_none}
 use Rattle.metalog.specs.declared.Files.{Files}
-use Rattle.metalog.specs.declared.Replay.{Replay}
+use Rattle.metalog.specs.Log.{Replay}
 use Rattle.metalog.specs.Log.{replay_of}
 use Rattle.map.specs.Map.{cleared, used}
 use Rattle.state.specs.declared.types.FileRecord.{FileRecord}
