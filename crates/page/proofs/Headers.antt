@@ -252,15 +252,15 @@ pairs_more (x ∷ l) z (suc i) h =
     rw e (ap (by16 x) (pairs_more l z i (le_of_suc-le-suc h)))
 
 -- as a loop over nine of them writes it
-pub links_more : (l : List ℕ) (i : ℕ) → length l ≡ 9 → i < 9
+pub pairs_step : (l : List ℕ) (i : ℕ) → length l ≡ 9 → i < 9
     → put_mid (2 * i) 2 (pairs (take i l) ++ replicate (18 - 2 * i) 0) (by16 (get_or l i 0) []) ≡ pairs (take (i + 1) l) ++ replicate (18 - 2 * (i + 1)) 0
-links_more l i n h =
+pairs_step l i n h =
     let e : 18 - 2 * i ≡ suc (suc (18 - 2 * (i + 1))) = omega arith in
     rw (e, add-one) (pairs_more l (replicate (18 - 2 * suc i) 0) i (omega arith))
 
 -- all nine, each by its place
-pub links_nine : (l : List ℕ) → length l ≡ 9 → pairs l ≡ pairs (tab (λ i. get_or l i 0) 0 9)
-links_nine l n = ap pairs (sym (tab_drop l 0 9 (sym n)))
+pub pairs_nine : (l : List ℕ) → length l ≡ 9 → pairs l ≡ pairs (tab (λ i. get_or l i 0) 0 9)
+pairs_nine l n = ap pairs (sym (tab_drop l 0 9 (sym n)))
 
 -- ---- a header's bytes read back
 

@@ -139,7 +139,7 @@ impl DataHeader {
 
 impl BackRead {
     // Of the same header, what a step back asks: a walk of many pages copies no headers.
-    #[tactic(auto, using(crate::proofs::Headers::given_read, crate::proofs::Headers::given_none), unfolding(crate::specs::Page::gives_back))]
+    #[tactic(auto, using(crate::proofs::Headers::given_none), unfolding(crate::specs::Page::gives_back))]
     fn from_page(pg: &[u8]) -> Option<BackRead>
         ensures { result ≡ gives_back (header_of pg.now) }
     {
