@@ -18,8 +18,7 @@ use Rattle.page.specs.Page.{Read, unreadable, readable}
 use Rattle.page.proofs.Laws.{split}
 use Rattle.metalog.specs.declared.Entry.{Entry}
 use Rattle.metalog.specs.declared.Files.{Files}
-use Rattle.metalog.specs.declared.Replay.{Replay}
-use Rattle.metalog.specs.Log.{sound, no_files, put, add, adds}
+use Rattle.metalog.specs.Log.{Replay, sound, no_files, put, add, adds}
 use Rattle.metalog.proofs.Table.{Sounds}
 use Rattle.chain.specs.declared.PagePointer.{PagePointer}
 use Rattle.chain.specs.Files.{last_of}
