@@ -11,23 +11,27 @@ use lib.ListN.{length, get_or, set, take}
 use lib.Seq.{take-suc-set, take_all}
 use Rattle.seq.specs.Ids.{none}
 use Rattle.seq.specs.Seq.{limit}
-use Rattle.page.specs.declared.HeaderRead.{HeaderRead}
+use Rattle.std.specs.Prelude.{Some, None}
 use Rattle.page.specs.declared.DataHeader.{DataHeader}
 use Rattle.page.specs.Page.{readable, gives}
 use Rattle.page.proofs.Headers.{given_read, given_none}
 use Rattle.metalog.specs.declared.Files.{Files}
+<<<<<<< HEAD
 use Rattle.metalog.specs.Log.{Replay}
 use Rattle.metalog.specs.Log.{replay_of}
+=======
+use Rattle.metalog.specs.Log.{Replay, replay_of, taken}
+>>>>>>> 5cd8c57d24fc47ecc9b4908315fda4ae69a8476d
 use Rattle.map.specs.Map.{cleared, used}
 use Rattle.state.specs.declared.types.FileRecord.{FileRecord}
 use Rattle.state.specs.Values.{empty_record}
 use Rattle.state.proofs.Laws.{both}
 use Rattle.chain.specs.Files.{last_of}
-use Rattle.chain.specs.Steps.{read_at, Trace, walk}
+use Rattle.chain.specs.Steps.{read_at, walk}
 use Rattle.volume.specs.declared.Best.{Best}
-use Rattle.volume.specs.declared.TableLoad.{TableLoad}
+use Rattle.state.specs.declared.types.Table.{Table}
 use Rattle.volume.specs.Mount.{Maybe, bad, good, bind, Loaded, claimed, record_of, load, LoadedAll, load_from, best_ok, mount_read, mount_from}
-use Rattle.volume.specs.Loads.{marked_as, all_as}
+use Rattle.volume.specs.Loads.{all_as}
 
 -- ---- one file
 
@@ -44,40 +48,38 @@ module _ (img : List ℕ) (count : ℕ) (m : List ℕ) (p first flags : ℕ) whe
   unfolding load
   load_live some h e l k = rw (ne_eqb p none some, e, le-leb (h.seq + h.length) limit l, lt-ltb first (h.seq + h.length) k)
 
-  module _ (some : p ≡ none → ⊥) (x : HeaderRead) (reads : x ≡ gives (read_at img p)) where
-    pub load_unread : x.ok ≡ false → bad ≡ load img count m p first flags
+  pub load_empty : p ≡ none → load img count m p first flags ≡ good (record { file = empty_record; map = m })
+  load_empty e = sym (load_none e)
+
+  module _ (some : p ≡ none → ⊥) where
+    pub load_unread : None ≡ gives (read_at img p) → load img count m p first flags ≡ bad
     unfolding load
-    load_unread o = rw (ne_eqb p none some, given_none x (read_at img p) reads o)
+    load_unread e = rw (ne_eqb p none some, given_none None (read_at img p) e refl)
 
-    pub load_past : x.ok ≡ true → limit < x.header.seq + x.header.length → bad ≡ load img count m p first flags
-    unfolding load
-    load_past o h = rw (ne_eqb p none some, given_read x (read_at img p) reads o, lt-leb (x.header.seq + x.header.length) limit h)
+    module _ (h : DataHeader) (reads : Some h ≡ gives (read_at img p)) where
+      is : read_at img p ≡ readable h
+      is = given_read (Some h) (read_at img p) h reads refl
 
-    pub load_over : x.ok ≡ true → x.header.seq + x.header.length ≤ first → bad ≡ load img count m p first flags
-    unfolding load
-    load_over o h =
-        rw (ne_eqb p none some, given_read x (read_at img p) reads o, le-ltb first (x.header.seq + x.header.length) h, and-false (leb (x.header.seq + x.header.length) limit))
+      pub load_past : limit < h.seq + h.length → load img count m p first flags ≡ bad
+      unfolding load
+      load_past o = rw (ne_eqb p none some, is, lt-leb (h.seq + h.length) limit o)
 
-    -- the record, as the walk has it
-    module _ (ok : Bool) (m' : List ℕ) where
-      abbrev file : FileRecord
-      file = record_of p first flags x.header
+      pub load_over : h.seq + h.length ≤ first → load img count m p first flags ≡ bad
+      unfolding load
+      load_over o = rw (ne_eqb p none some, is, le-ltb first (h.seq + h.length) o, and-false (leb (h.seq + h.length) limit))
 
-      abbrev path : Trace
-      path = walk count (read_at img) first (last_of file)
+      -- the walk claims its pages, or not
+      pub load_claimed : (m' : List ℕ) → h.seq + h.length ≤ limit → first < h.seq + h.length
+          → let f = record_of p first flags h in
+          let t = walk count (read_at img) first (last_of f) in
+          good m' ≡ claimed m (last_of f) t t.ends → load img count m p first flags ≡ good (record { file = f; map = m' })
+      load_claimed m' o k e = load_live some h is o k ∙ rw (← e)
 
-      abbrev with : List ℕ → Maybe Loaded
-      with m = good (record { file = file; map = m })
-
-      marked : (ok : Bool) → cond ok (with m') bad ≡ bind (marked_as ok m') with
-      marked true = refl
-      marked false = refl
-
-      pub load_walk : x.ok ≡ true → x.header.seq + x.header.length ≤ limit → first < x.header.seq + x.header.length
-          → marked_as ok m' ≡ claimed m (last_of file) path path.ends → cond ok (with m') bad ≡ load img count m p first flags
-      load_walk o h k e =
-          marked ok ∙ ap (λ (y : Maybe (List ℕ)). bind y with) e
-          ∙ sym (load_live some x.header (given_read x (read_at img p) reads o) h k)
+      pub load_unclaimed : h.seq + h.length ≤ limit → first < h.seq + h.length
+          → let f = record_of p first flags h in
+          let t = walk count (read_at img) first (last_of f) in
+          bad ≡ claimed m (last_of f) t t.ends → load img count m p first flags ≡ bad
+      load_unclaimed o k e = load_live some h is o k ∙ rw (← e)
 
 -- ---- all files
 
@@ -105,44 +107,78 @@ module _ (img : List ℕ) (count : ℕ) (f : Files) where
   unfolding load_from
   from_first i k m h = let e : k - i ≡ suc (k - (i + 1)) = omega arith in rw (e, add-one i)
 
+  -- the files before i in front of what the others give
+  unfoldable pub so_far : ℕ → List FileRecord → List ℕ → Maybe LoadedAll
+  so_far i files m = behind (take i files) (load_from img count f i (8 - i) m)
+
+  pub so_far_none : (files : List FileRecord) (m : List ℕ) → so_far 0 files m ≡ load_from img count f 0 8 m
+  unfolding so_far
+  so_far_none files m = behind_none (load_from img count f 0 8 m)
+
   module _ (i : ℕ) (files : List FileRecord) (m : List ℕ) (below : i < 8) where
     -- a file that is damaged
-    pub from_bad : bad ≡ load_at i m → bad ≡ behind (take i files) (load_from img count f i (8 - i) m)
-    from_bad e = sym (rw (from_first i 8 m below, sym e))
+    pub so_far_bad : bad ≡ load_at i m → so_far i files m ≡ bad
+    unfolding so_far
+    so_far_bad e = rw (from_first i 8 m below, sym e)
 
     -- one that loads
-    pub from_good : (x : Loaded) → good x ≡ load_at i m → length files ≡ 8
-        → behind (take (i + 1) (set files i x.file)) (load_from img count f (i + 1) (8 - (i + 1)) x.map) ≡ behind (take i files) (load_from img count f i (8 - i) m)
-    from_good x e n =
+    pub so_far_more : (g : FileRecord) (m' : List ℕ) → good (record { file = g; map = m' }) ≡ load_at i m → length files ≡ 8
+        → so_far (i + 1) (set files i g) m' ≡ so_far i files m
+    unfolding so_far
+    so_far_more g m' e n =
         let l : i < length files = omega arith in
-        let rest = load_from img count f (i + 1) (8 - (i + 1)) x.map in
-        let g : take (i + 1) (set files i x.file) ≡ take i files ++ x.file ∷ [] = rw (add-one i) (take-suc-set files i x.file l) in
-        rw g (sym (behind_one (take i files) x.file rest) ∙ sym (rw (from_first i 8 m below, sym e)))
+        let rest = load_from img count f (i + 1) (8 - (i + 1)) m' in
+        let t : take (i + 1) (set files i g) ≡ take i files ++ g ∷ [] = rw (add-one i) (take-suc-set files i g l) in
+        rw t (sym (behind_one (take i files) g rest) ∙ sym (rw (from_first i 8 m below, sym e)))
 
-  -- all of them
-  pub from_all : (i : ℕ) (files : List FileRecord) (m : List ℕ) → i ≡ 8 → length files ≡ 8
-      → good (record { files = files; map = m }) ≡ behind (take i files) (load_from img count f i (8 - i) m)
-  unfolding load_from
-  from_all i files m e n = rw (e, take_all 8 files (omega arith), append-nil files)
+  pub so_far_all : (i : ℕ) (files : List FileRecord) (m : List ℕ) → i ≡ 8 → length files ≡ 8 → so_far i files m ≡ good (record { files = files; map = m })
+  unfolding so_far load_from
+  so_far_all i files m e n = rw (e, take_all 8 files (omega arith), append-nil files)
 
 -- ---- from the best metadata page
+
+taken_none : (r : Replay) → None ≡ taken r → r.ok ≡ false
+taken_none r e = by r.ok refl e
+  where
+    by : (t : Bool) → r.ok ≡ t → None ≡ cond t (Some r.files) None → r.ok ≡ false
+    by true h e = cc
+    by false h e = h
+
+taken_some : (r : Replay) (f : Files) → Some f ≡ taken r → (r.ok ≡ true) × (f ≡ r.files)
+taken_some r f e = by r.ok refl e
+  where
+    by : (t : Bool) → r.ok ≡ t → Some f ≡ cond t (Some r.files) None → (r.ok ≡ true) × (f ≡ r.files)
+    by true h e = (h, cc)
+    by false h e = cc
 
 module _ (img : List ℕ) (n : ℕ) (b : Best) where
   pub from_no_best : best_ok n b ≡ false → bad ≡ mount_from img n b
   unfolding mount_from
   from_no_best e = rw e
 
-  module _ (best : best_ok n b ≡ true) (r : Replay) (is : r ≡ replay_of b.page_count img b.page) where
-    from_read : mount_from img n b ≡ mount_read img n b r
-    unfolding mount_from
-    from_read = rw (best, sym is)
+  module _ (best : best_ok n b ≡ true) where
+    module _ (r : Replay) (is : r ≡ replay_of b.page_count img b.page) where
+      from_read : mount_from img n b ≡ mount_read img n b r
+      unfolding mount_from
+      from_read = rw (best, sym is)
 
-    pub from_no_log : r.ok ≡ false → bad ≡ mount_from img n b
-    from_no_log e = sym (from_read ∙ rw e)
+      pub from_no_log : r.ok ≡ false → bad ≡ mount_from img n b
+      from_no_log e = sym (from_read ∙ rw e)
 
-    pub from_log : r.ok ≡ true
-        → load_from img b.page_count r.files 0 8 (set (cleared n b.page_count) b.page used) ≡ mount_from img n b
-    from_log e = sym (from_read ∙ rw e)
+      pub from_log : r.ok ≡ true
+          → load_from img b.page_count r.files 0 8 (set (cleared n b.page_count) b.page used) ≡ mount_from img n b
+      from_log e = sym (from_read ∙ rw e)
+
+    -- by what the code has of the log
+    pub from_none : None ≡ taken (replay_of b.page_count img b.page) → bad ≡ mount_from img n b
+    from_none e = from_no_log (replay_of b.page_count img b.page) refl (taken_none _ e)
+
+    pub from_files : (f : Files) → Some f ≡ taken (replay_of b.page_count img b.page)
+        → load_from img b.page_count f 0 8 (set (cleared n b.page_count) b.page used) ≡ mount_from img n b
+    from_files f e =
+        let t = taken_some (replay_of b.page_count img b.page) f e in
+        ap (λ (f : Files). load_from img b.page_count f 0 8 (set (cleared n b.page_count) b.page used)) t.1
+        ∙ from_log (replay_of b.page_count img b.page) refl t.0
 
   -- a mount that succeeds had a best page
   pub record Chosen : Type 0 where
@@ -166,11 +202,8 @@ module _ (img : List ℕ) (n : ℕ) (b : Best) where
       by false h = let y : bad ≡ good x = from_no_best h ∙ e in let z : ◌≡◌ {A = ℕ} 0 1 = cc in absurd (omega arith)
 
   -- what the code's answer says
-  pub all_good : (r : TableLoad) (m : List ℕ) → all_as r m ≡ mount_from img n b → r.ok ≡ true → mount_from img n b ≡ good (record { files = r.table.files; map = m })
-  all_good r m e h = sym (sym (rw h) ∙ e)
+  pub all_good : (t : Table) (m : List ℕ) → all_as (Some t) m ≡ mount_from img n b → mount_from img n b ≡ good (record { files = t.files; map = m })
+  all_good t m e = sym e
 
-  pub all_bad : (r : TableLoad) (m : List ℕ) → all_as r m ≡ mount_from img n b → r.ok ≡ false → mount_from img n b ≡ bad
-  all_bad r m e h = sym (sym (rw h) ∙ e)
-
-  pub all_chosen : (r : TableLoad) (m : List ℕ) → all_as r m ≡ mount_from img n b → r.ok ≡ true → Chosen
-  all_chosen r m e h = chosen (from_good_best _ (all_good r m e h))
+  pub all_chosen : (t : Table) (m : List ℕ) → all_as (Some t) m ≡ mount_from img n b → Chosen
+  all_chosen t m e = chosen (from_good_best _ (sym e))

@@ -7,8 +7,7 @@ use Rattle.seq.specs.Seed.{seed_after}
 use Rattle.page.specs.declared.DataHeader.{DataHeader}
 use Rattle.page.specs.Page.{Read, unreadable, readable}
 use Rattle.metalog.specs.declared.Files.{Files}
-use Rattle.metalog.specs.Log.{Replay}
-use Rattle.metalog.specs.Log.{replay_of}
+use Rattle.metalog.specs.Log.{Replay, replay_of}
 use Rattle.map.specs.Map.{cleared, used}
 use Rattle.chain.specs.declared.PagePointer.{PagePointer}
 use Rattle.chain.specs.Files.{last_of}
