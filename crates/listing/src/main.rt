@@ -7,41 +7,25 @@ use inventory::{FileLine, Inventory};
 use std::io;
 use std::io::Read;
 
-// One file's line, or nothing where the file is empty.
-fn print_line(rt: &impl Print, id: usize, line: FileLine) -> io::Result<()> {
-    if !line.live {
-        return Ok(());
-    }
-    let first = line.first;
-    let last = line.last;
-    let flags = line.flags;
-    let pages = line.pages;
+fn print_line(rt: &impl Print, id: usize, line: &FileLine) -> io::Result<()> {
+    let FileLine {
+        live: _,
+        first,
+        last,
+        flags,
+        pages,
+    } = *line;
     println!(rt; "file {id} first {first} last {last} flags {flags} pages {pages}")
 }
 
-fn one_if(live: bool) -> u64
-    ensures { result ≤ 1 }
-{
-    if live { 1 } else { 0 }
-}
-
-fn count_live(lines: [FileLine; 8]) -> u64 {
-    let a = one_if(lines[0].live)
-        + one_if(lines[1].live)
-        + one_if(lines[2].live)
-        + one_if(lines[3].live);
-    let b = one_if(lines[4].live)
-        + one_if(lines[5].live)
-        + one_if(lines[6].live)
-        + one_if(lines[7].live);
-    a + b
-}
-
+// An empty file has no line.
 fn print_files(rt: &impl Print, lines: [FileLine; 8]) -> io::Result<()> {
-    let count = count_live(lines);
+    let count = lines.iter().filter(|line| line.live).count();
     println!(rt; "files {count}")?;
     for (id, line) in lines.iter().enumerate() {
-        print_line(rt, id, *line)?;
+        if line.live {
+            print_line(rt, id, line)?;
+        }
     }
     Ok(())
 }
@@ -54,7 +38,7 @@ fn print_inventory(rt: &impl Print, inv: Inventory) -> io::Result<()> {
     print_files(rt, inv.lines)
 }
 
-// Fills buf as far as the input goes, and answers how many bytes came.
+// Fills buf as far as the input goes, and answers how many bytes came. `read_to_end` would allocate, and read on after an interruption.
 fn read_full<R: Read>(input: &mut R, buf: &mut [u8]) -> io::Result<usize>
     ensures { IfOk result (λ n. n ≤ length buf.new) }
 {

@@ -16,12 +16,7 @@ use Rattle.page.specs.declared.DataHeader.{DataHeader}
 use Rattle.page.specs.Page.{readable, gives}
 use Rattle.page.proofs.Headers.{given_read, given_none}
 use Rattle.metalog.specs.declared.Files.{Files}
-<<<<<<< HEAD
-use Rattle.metalog.specs.Log.{Replay}
-use Rattle.metalog.specs.Log.{replay_of}
-=======
 use Rattle.metalog.specs.Log.{Replay, replay_of, taken}
->>>>>>> 5cd8c57d24fc47ecc9b4908315fda4ae69a8476d
 use Rattle.map.specs.Map.{cleared, used}
 use Rattle.state.specs.declared.types.FileRecord.{FileRecord}
 use Rattle.state.specs.Values.{empty_record}

@@ -18,12 +18,7 @@ use Rattle.page.specs.Page.{Read, unreadable, readable}
 use Rattle.page.proofs.Laws.{split}
 use Rattle.metalog.specs.declared.Entry.{Entry}
 use Rattle.metalog.specs.declared.Files.{Files}
-<<<<<<< HEAD
-use Rattle.metalog.specs.Log.{Replay}
-use Rattle.metalog.specs.Log.{sound, no_files, put, add, adds}
-=======
 use Rattle.metalog.specs.Log.{Replay, sound, no_files, put, add, adds}
->>>>>>> 5cd8c57d24fc47ecc9b4908315fda4ae69a8476d
 use Rattle.metalog.proofs.Table.{Sounds}
 use Rattle.chain.specs.declared.PagePointer.{PagePointer}
 use Rattle.chain.specs.Files.{last_of}

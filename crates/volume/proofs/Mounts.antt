@@ -9,12 +9,7 @@ use native.Mathlib.Omega.{arith}
 use borrow.Author.Tests.{le-leb, lt-ltb}
 use lib.ListN.{length, set}
 use Rattle.seq.specs.Seed.{seed_after}
-<<<<<<< HEAD
-use Rattle.metalog.specs.Log.{Replay}
-use Rattle.metalog.specs.Log.{adds, fresh, replay_of}
-=======
 use Rattle.metalog.specs.Log.{Replay, adds, fresh, replay_of}
->>>>>>> 5cd8c57d24fc47ecc9b4908315fda4ae69a8476d
 use Rattle.metalog.proofs.Table.{replay_good, replay_ended, adds_good}
 use Rattle.map.specs.Map.{cleared, used}
 use Rattle.state.specs.declared.types.Table.{Table}
