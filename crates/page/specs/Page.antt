@@ -1,6 +1,6 @@
 -- The pages of an image and what stands on them, by document 01, "Numbers" and "Layout".
 -- Assumes nothing.
-use Rattle.std.specs.Prelude.{ℕ, zero, suc, ◌+◌, ◌-◌, ◌*◌, ◌/◌, ◌≤◌, ◌<◌, ◌≡◌, List, [], ◌∷◌, Bool, Option, Some, None, cond, ◌&&◌, length, get_or, leb, ltb, eqb}
+use Rattle.std.specs.Prelude.{ℕ, zero, suc, ◌+◌, ◌-◌, ◌*◌, ◌/◌, ◌≤◌, ◌<◌, ◌≡◌, List, [], ◌∷◌, Bool, Option, Some, None, cond, ◌&&◌, length, get_or, replicate, leb, ltb, eqb}
 use Rattle.runs.specs.Runs.{part, le16, le32, by16, by32}
 use Rattle.page.specs.declared.DataHeader.{DataHeader}
 use Rattle.page.specs.declared.BackRead.{BackRead}
@@ -44,6 +44,10 @@ pub data Read : Type 0 where
 -- of a page's bytes: the magic matches, the pair agrees and 1 ≤ length ≤ 224
 unfoldable pub header_of : List ℕ → Read
 header_of pg = cond (begins pg data_magic && pair_reads pg) (readable (fields_of pg)) unreadable
+
+-- the header of no page, all 0
+abbrev pub no_header : DataHeader
+no_header = record { seq = 0; skiplist = replicate 9 0; record_boundary = 0; length = 0 }
 
 -- the same as the code's answer
 unfoldable pub gives : Read → Option DataHeader
