@@ -1,26 +1,24 @@
--- `reader::reading::read_in` meets its contract: the tests that led to each return say which case it is.
+-- `reader::reading::read_in` meets its contract: where all pages open the bytes are theirs, and else the output is zero.
 -- Assumes nothing.
-use mathlib.Core.Path.{sym, ◌∙◌}
-use Rattle.reader.proofs.Exits.{read_none, read_gone, read_eof, read_short, read_shaped, read_shapeless}
+use mathlib.Core.Path.{sym, ap, ◌∙◌}
+use Prim.Native.Nat.{ℕ}
+use borrow.Author.Tests.{eqb-false}
+use lib.ListN.{replicate}
+use Rattle.reader.proofs.Bytes.{read_whole, read_zero, read_lost}
 use Rattle.reader.proofs.reading.read_in.Goals as goal
+use Rattle.reader.proofs.reading.read_in.Goals.{else-in_shape-via-then-in_shape+else-is_some, else-in_shape-via-else-in_shape}
 
-pub returns-then-n-eq0 : goal.returns-then-n-eq0
-returns-then-n-eq0 c = read_none _ _ _ _ _ c.if-n-eq0.true
-
-pub returns-then-seq-f : goal.returns-then-seq-f
-returns-then-seq-f c = read_gone _ _ _ _ _ c.if-n-eq0.false c.if-seq-f.true
-
-pub returns-then-f-seq : goal.returns-then-f-seq
-returns-then-f-seq c = read_eof _ _ _ _ _ c.if-n-eq0.false c.if-seq-f.false c.if-f-seq.true
-
-pub returns-then-rest-n : goal.returns-then-rest-n
-returns-then-rest-n c =
-    read_short _ _ _ _ _ c.if-n-eq0.false c.if-seq-f.false c.if-f-seq.false c.if-rest-n.true
-
-pub returns-then-in_shape : goal.returns-then-in_shape
-returns-then-in_shape c =
-    c.read_bytes.ensures ∙ read_shaped _ _ _ _ _ c.if-n-eq0.false c.if-seq-f.false c.if-f-seq.false c.if-rest-n.false (sym c.in_shape.ensures ∙ c.if-in_shape.true)
+pub returns-then-is_some : goal.returns-then-is_some
+returns-then-is_some c =
+    read_whole _ _ _ _ _ (eqb-false _ _ (sym c.if-is_empty.ensures)) _ c.in_ok-end.ensures.answer _ _ c.in_ok-end.ensures.end
+    (sym c.if-in_shape.ensures) c.read_bytes.ensures (sym c.if-is_some.ensures)
 
 pub returns : goal.returns
 returns c =
-    c.damaged.ensures ∙ read_shapeless _ _ _ _ _ c.if-n-eq0.false c.if-seq-f.false c.if-f-seq.false c.if-rest-n.false (sym c.in_shape.ensures ∙ c.if-in_shape.false)
+    let some = eqb-false _ _ (sym c.if-is_empty.ensures) in
+    let zero = c.fill.ensures.after (λ y e. e) ∙ ap (λ (n : ℕ). replicate n 0) c.else-in_shape.auto.out in
+    elim c.else-in_shape.branch [
+      | else-in_shape-via-then-in_shape+else-is_some w ↦
+          read_lost _ _ _ _ _ some _ c.in_ok-end.ensures.answer _ zero _ _ (sym w.if-in_shape.ensures) w.read_bytes.ensures (sym w.if-is_some.ensures)
+      | else-in_shape-via-else-in_shape w ↦ read_zero _ _ _ _ _ some _ c.in_ok-end.ensures.answer _ zero (sym w.if-in_shape.ensures)
+    ]
