@@ -9,9 +9,8 @@ use lib.ListN.{set}
 use Rattle.page.specs.Page.{Read}
 use Rattle.map.specs.Map.{free}
 use Rattle.chain.specs.declared.PagePointer.{PagePointer}
-use Rattle.chain.specs.declared.Kind.{Kind}
-use Rattle.chain.specs.declared.Kind.TheVariants.{Stays, Reaches, Breaks}
-use Rattle.chain.specs.declared.BackStep.{BackStep}
+use Rattle.chain.specs.declared.Step.{Step}
+use Rattle.chain.specs.declared.Step.TheVariants.{Stays, Reaches, Breaks}
 use Rattle.chain.specs.declared.Place.{Place}
 use Rattle.chain.specs.Steps.{back_rule, Stepped, stays, reaches, breaks, step}
 use Rattle.chain.specs.Back.{place_of, wide, told_back}
@@ -67,18 +66,15 @@ module _ (count : ℕ) (read : ℕ → Read) where
       → unbroken (back_from count read (n - 1) (wide x)) ≡ unbroken (back_from count read n p)
   unbroken_step n p x h r = ap unbroken (back_wide (n - 1) r.0 x r.2) ∙ unbroken_next n p r.0 h r.1
 
-  -- an unbroken walk's step reaches a page
-  pub unbroken_reaches : (n : ℕ) (p : Place) (x : BackStep) → 1 < n → x ≡ told_back p (step (back_rule count 0) read (wide p))
-      → unbroken (back_from count read n (wide p)) ≡ true → Reached (step (back_rule count 0) read (wide p)) x.place
-  unbroken_reaches n p x h e u = by x.kind (backs_to p x _ _ e refl)
+  -- a step that reaches no page breaks the walk
+  pub unbroken_stuck : (n : ℕ) (p : Place) (x : Step Place) → 1 < n → x ≡ told_back (step (back_rule count 0) read (wide p))
+      → ((q : Place) → x ≡ Reaches q → ⊥) → unbroken (back_from count read n (wide p)) ≡ false
+  unbroken_stuck n p x h e never = by x refl (backs_to x _ e)
     where
-      not : back_from count read n (wide p) ≡ lost → ⊥
-      not g = let z : ◌≡◌ {A = Bool} false true = sym (ap unbroken g) ∙ u in let y : ◌≡◌ {A = ℕ} 0 1 = cc in omega arith
-
-      by : (k : Kind) → BacksTo (step (back_rule count 0) read (wide p)) k x.place → Reached (step (back_rule count 0) read (wide p)) x.place
-      by Reaches g = g
-      by Stays g = absurd (not (back_stays n (wide p) h g))
-      by Breaks g = absurd (not (back_breaks n (wide p) h g))
+      by : (y : Step Place) → x ≡ y → BacksTo (step (back_rule count 0) read (wide p)) y → unbroken (back_from count read n (wide p)) ≡ false
+      by (Reaches q) f g = absurd (never q f)
+      by Stays f g = ap unbroken (back_stays n (wide p) h g)
+      by Breaks f g = ap unbroken (back_breaks n (wide p) h g)
 
   -- ---- pages freed, the first of them already
   abbrev pub freed_after : List ℕ → Back → List ℕ
