@@ -70,6 +70,7 @@ pub fn finish(
 // ---- discard
 
 // Whether the last n pages from p back are all there. One step fewer than pages.
+#[tactic(auto, using(crate::proofs::Backs::unbroken_first, crate::proofs::Backs::unbroken_more, crate::proofs::Backs::unbroken_stuck, crate::proofs::Backs::unbroken_last))]
 fn is_unbroken(image: &[u8], count: usize, p: &PagePointer, n: u32) -> bool
     ensures { result ≡ unbroken (back_from count (read_at image.now) n p.now) }
 {
@@ -83,7 +84,8 @@ fn is_unbroken(image: &[u8], count: usize, p: &PagePointer, n: u32) -> bool
     true
 }
 
-// Frees them.
+// Frees them, once it is known that they are there: a discard that is refused changes nothing.
+#[tactic(auto, using(crate::proofs::Backs::unbroken_first, crate::proofs::Backs::unbroken_more, crate::proofs::Backs::unbroken_stuck, crate::proofs::Backs::freed_none, crate::proofs::Backs::freed_start, crate::proofs::Backs::freed_more, crate::proofs::Backs::freed_end))]
 fn free_back(image: &[u8], map: &mut [u8], count: usize, p: &PagePointer, n: u32)
     requires { unbroken (back_from count (read_at image.now) n p.now) ≡ true }
     ensures { map.new ≡ freed_by map.old (back_from count (read_at image.now) n p.now) }

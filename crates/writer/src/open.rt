@@ -77,6 +77,7 @@ fn page_before(image: &[u8], count: usize, f: &FileRecord) -> Result<PagePointer
 }
 
 // The copy's page is allocated at once; nothing is stored yet. It makes no use of the table, so that it is the same with any.
+#[tactic(auto, using(crate::proofs::Pages::alloc_small, crate::proofs::Opens::copied_page, crate::proofs::Opens::copied_none), unfolding(state::specs::Values::with_cursor, state::specs::Values::with_writer))]
 fn copied_to(
     image: &[u8],
     map: &mut [u8],

@@ -56,6 +56,7 @@ fn flush(image: &mut [u8], w: &mut Writer)
 }
 
 // Then a page is allocated.
+#[tactic(auto, using(crate::proofs::Pages::alloc_small, crate::proofs::Pages::next_page_lem, crate::proofs::Pages::next_full), unfolding(state::specs::Values::with_cursor, state::specs::Values::with_writer))]
 fn next_page(image: &mut [u8], map: &mut [u8], state: &mut State)
     requires { Able state.old.page_count state.old.cursor state.old.writer }
     ensures { writes image.new map.new state.new ≡ wrote image.old state.old (next_page state.old.page_count (begins map.old state.old)) }
@@ -125,6 +126,7 @@ fn may_write(map: &[u8], state: &State, len: usize) -> Result<(), Refusal>
 }
 
 // Whole or refused.
+#[tactic(auto, using(state::proofs::Laws::checks_pass, crate::proofs::Exits::may_sound, crate::proofs::Exits::write_by), unfolding(crate::specs::Write::write))]
 pub fn write(
     image: &mut [u8],
     map: &mut [u8],
