@@ -19,7 +19,6 @@ use Rattle.state.specs.declared.types.State.{State}
 use Rattle.state.specs.declared.types.Writer.{Writer}
 use Rattle.state.specs.declared.types.Refusal.{Refusal}
 use Rattle.state.specs.declared.types.Refusal.TheVariants.{Damaged, NoRoom, SeqEnd, NoSearch}
-use Rattle.state.specs.declared.types.Out.{Out}
 use Rattle.state.specs.Refusals.{on_done, Done, fine}
 use Rattle.state.specs.declared.types.Table.{Table}
 use Rattle.state.specs.Values.{file_at, with_file, no_writer, opened, with_writer}
@@ -29,7 +28,7 @@ use Rattle.state.proofs.Laws.{MountedState, writer_says}
 use Rattle.writer.specs.Staging.{is_staged, previous_of, staged_header, flush_stores, record_ended, space, pages_for, too_few}
 use Rattle.writer.specs.Write.{write_from, begun, written_as, write_in, write, record_end}
 use Rattle.writer.specs.Finish.{marked, grown, finished, shut, finish, Back, lost, pages, back_from, discarded_by, discard}
-use Rattle.writer.specs.Inner.{out_of, Sound, may_write, unbroken, freed_by}
+use Rattle.writer.specs.Inner.{Sound, may_write, unbroken, freed_by}
 use Rattle.writer.proofs.Pages.{flush_by}
 
 -- ---- a write
@@ -101,10 +100,6 @@ module _ (w : World) (busy : Bool) (file : ℕ) (rest : Outcome Done) (d : Done)
 
   pub checked_passed : d ≡ fine → checked w busy file (refuse w) rest ≡ rest
   checked_passed h = rw (← e, h)
-
--- a world with another answer, table and state
-pub answered : (w : World) (r : Out) (a : Done) → r ≡ out_of a w.table w.state → after r w.image w.map ≡ record { answer = a; world = w }
-answered w r a e = rw e
 
 module _ (w : World) (d : Done) (e : d ≡ checks (length w.image) (length w.map) w.state false 0) (f : d ≡ fine) where
   abbrev x : Writer
@@ -190,17 +185,14 @@ module _ (w : World) (d : Done) (e : d ≡ checks (length w.image) (length w.map
 
 -- ---- a page finished
 
-pub finished_is : (w : World) (img m s : List ℕ) (h : DataHeader) (t : Table) (st : State)
-    → h ≡ staged_header w.state.writer → s ≡ w.state.writer.staged
-    → img ≡ ran w.image (data_stores w.state.writer.page h (take h.length s))
+pub finished_is : (w : World) (img m : List ℕ) (h : DataHeader) (t : Table) (st : State)
+    → h ≡ staged_header w.state.writer
+    → img ≡ ran w.image (data_stores w.state.writer.page h (take h.length w.state.writer.staged))
     → m ≡ marked w.map w.state.writer.copied held
     → t ≡ with_file w.table w.state.writer.file (grown (file_at w.table w.state.writer.file) w.state.writer)
     → st ≡ with_writer (opened w.state) no_writer
     → record { answer = fine; world = before img m t st } ≡ ended w (finished w w.state.writer)
 unfolding finished
-finished_is w img m s h t st eh es ei em et ex =
-    let x = w.state.writer in
-    let e : data_stores w.state.writer.page h (take h.length s) ≡ flush_stores w.state.writer =
-    ap (λ (l : List ℕ). data_stores w.state.writer.page h (take h.length l)) es ∙ flush_by w.state.writer w.state.writer.staged h eh in
-    let i : img ≡ ran w.image (flush_stores w.state.writer) = ei ∙ ap (ran w.image) e in
+finished_is w img m h t st eh ei em et ex =
+    let i : img ≡ ran w.image (flush_stores w.state.writer) = ei ∙ ap (ran w.image) (flush_by w.state.writer h eh) in
     rw (i, em, et, ex)

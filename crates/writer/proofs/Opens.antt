@@ -40,12 +40,6 @@ passed_sized img m s busy file p =
 pub shaped_stands : (img : List ℕ) (s : State) (f : FileRecord) → Sized img s → in_shape s.page_count f ≡ true → Stands img s f
 shaped_stands img s f z h = let g = shape_says s.page_count f h in record { sized = z; inside = g.inside; high = g.high }
 
--- the step from the record's last page, as the code tells it
-pub step_told : (w : World) (f : FileRecord) (p : PagePointer) (x : Step) → p ≡ last_of f
-    → x ≡ told p (step (back_rule w.state.page_count f.first_seq) (read_at w.image) p) → x ≡ told (last_of f) (step_from w f)
-step_told w f p x e h =
-    h ∙ ap (λ (q : PagePointer). told q (step (back_rule w.state.page_count f.first_seq) (read_at w.image) q)) e
-
 module _ (w : World) (i : ℕ) (f : FileRecord) where
   -- ---- by the record
 

@@ -7,12 +7,9 @@ use Rattle.state.specs.World.{before}
 use Rattle.writer.proofs.Exits.{finished_is}
 use Rattle.writer.proofs.finish.finish_page.Goals as goal
 
-pub grow-t-requires : goal.grow-t-requires
-grow-t-requires c = (c.requires.0, c.requires.1, c.staged_header-header.ensures)
-
 pub returns : goal.returns
+unfolding with_writer
 returns c =
     let a = c.args in
-    let w = before a.image.now a.map.now a.table a.state in
-    finished_is w _ _ _ _ _ _ c.staged_header-header.ensures c.staged_bytes-staged.ensures c.flush_header.ensures c.mark_page.ensures c.grow-t.ensures
-    (c.closed-s.ensures ∙ ap (λ (s : State). with_writer s no_writer) c.open_transaction.ensures)
+    let w = before a.image.now a.map.now a.table.now a.state.now in
+    finished_is w _ _ _ _ _ c.staged_header-header.ensures c.flush_header.ensures c.mark_page.ensures (c.grow.ensures) (rw (c.open_transaction.ensures, c.no_writer-state.ensures))
