@@ -1,12 +1,13 @@
 -- A list of a field of a table's files. Assumes nothing.
-use mathlib.Core.Path.{◌≡◌, refl, sym, ◌∙◌, subst}
+use mathlib.Core.Path.{◌≡◌, refl, sym, ◌∙◌, ap, subst}
 use mathlib.Core.List.{List, map}
 use Prim.Native.Nat.{ℕ, zero, suc, ◌+◌, ◌≤◌, ◌<◌}
 use native.Mathlib.Omega.{arith}
 use borrow.Author.Tests.{eqb-true, eqb-false}
 use mathlib.Core.Bool.{Bool, true, false}
 use lib.Dec.{eqb}
-use lib.ListN.{length, get_or, length-map}
+use lib.ListN.{length, get_or, set, length-map, length-set}
+use lib.Seq.{get_or-set_same, get_or-set_other, set-set, set_comm}
 use denote.Param.Members.{Mut, Called}
 use Rattle.std.specs.Array.{IsFromFnResult, IsFromFnResultFrom}
 use Rattle.std.proofs.lemmas.List.{get_or-map, same_lists}
@@ -38,3 +39,29 @@ pub made_fields : {F B : Type 0} {g : Mut F (ℕ × Unit {0}) B} {f : F} {ys : L
     → ((i : ℕ) (y : B) (q : F) → Called g f (i, tt) y q → (q ≡ f) × (y ≡ v (get_or fs i absent)))
     → ys ≡ map v fs
 made_fields {F} {B} {g} {f} {ys} fs v m eight at_each = made_all g f ys fs v at_each m eight
+
+-- two that are swapped and then marked were marked and swapped
+module _ {X : Type 0} (mark : X → X) (once : (x : X) → mark (mark x) ≡ mark x) (l : List X) (i j : ℕ) (d : X) (h : i < length l) (k : j < length l) where
+  abbrev both_marked : List X → List X
+  both_marked s = let t = set s i (mark (get_or s i d)) in set t j (mark (get_or t j d))
+
+  pub marked_swap : (s : List X) → s ≡ set (set l i (get_or l j d)) j (get_or l i d) → both_marked s ≡ set (set l i (mark (get_or l j d))) j (mark (get_or l i d))
+  marked_swap s e = ap both_marked e ∙ by (eqb i j) refl
+    where
+      by : (b : Bool) → eqb i j ≡ b → both_marked (set (set l i (get_or l j d)) j (get_or l i d)) ≡ set (set l i (mark (get_or l j d))) j (mark (get_or l i d))
+      by true t = let z : j ≡ i = sym (eqb-true i j t) in rw z (rw (set-set l i x x, get_or-set_same l i x d h, get_or-set_same (set l i x) i (mark x) d (rw (length-set l i x) h), once x) (simp set-set))
+        where
+          x : X
+          x = get_or l i d
+      by false t =
+          let n = eqb-false i j t in
+          let m : j ≡ i → ⊥ = λ e. n (sym e) in
+          let u : get_or (set (set l i y) j x) i d ≡ y = get_or-set_other (set l i y) j i x d n ∙ get_or-set_same l i y d h in
+          let v : get_or (set (set (set l i y) j x) i (mark y)) j d ≡ x =
+          get_or-set_other (set (set l i y) j x) i j (mark y) d m ∙ get_or-set_same (set l i y) j x d (rw (length-set l i y) k) in
+          rw (u, v, set_comm (set l i y) j i x (mark y) m, set-set l i y (mark y), set-set (set l i (mark y)) j x (mark x)) refl
+        where
+          x : X
+          x = get_or l i d
+          y : X
+          y = get_or l j d

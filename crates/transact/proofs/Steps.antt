@@ -3,7 +3,7 @@
 use mathlib.Core.Path.{◌≡◌, refl, sym, ◌∙◌, ap}
 use mathlib.Core.Bool.{Bool, true, false, cond, ◌&&◌}
 use mathlib.Core.List.{List, [], ◌∷◌}
-use Prim.Native.Nat.{ℕ, ◌≤◌}
+use Prim.Native.Nat.{ℕ, ◌≤◌, ◌<◌}
 use borrow.Author.Tests.{eqb-true, eqb-false, eq-eqb, ne_eqb}
 use lib.Dec.{eqb}
 use lib.ListN.{set}
@@ -14,10 +14,13 @@ use Rattle.chain.specs.declared.Place.{Place}
 use Rattle.std.specs.Prelude.{Some, None}
 use Rattle.std.proofs.lemmas.Option.{same_Some}
 use Rattle.chain.specs.Files.{last_of}
-use Rattle.chain.specs.Steps.{read_at, at, Trace, stop, through, walk}
+use Rattle.chain.specs.declared.Step.{Step}
+use Rattle.chain.specs.declared.Step.TheVariants.{Stays, Reaches, Breaks}
+use Rattle.chain.specs.Steps.{read_at, back_rule, step, at, Trace, stop, through, walk}
 use Rattle.chain.specs.Seek.{found}
-use Rattle.chain.specs.Back.{place_of, walk_back, reached_by}
-use Rattle.chain.proofs.Edges.{Edge, edge, parts_end, back_ok, back_path, reached_place, reached_none}
+use Rattle.chain.specs.Back.{place_of, wide, told_back, walk_back, reached_by}
+use Rattle.chain.proofs.Places.{says_back}
+use Rattle.chain.proofs.Edges.{ends_not, ends_through, Edge, edge, parts_end, back_ok, back_path, reached_place, reached_none}
 use Rattle.state.specs.declared.types.FileRecord.{FileRecord}
 use Rattle.state.specs.Values.{in_shape}
 use Rattle.state.proofs.Laws.{both}
@@ -45,6 +48,26 @@ module _ (last : ℕ) (m : List ℕ) (t : Trace) where
       ap (λ (x : List ℕ). held_all x (others last u.path)) h
       ∙ held_one last m j u.path
       ∙ sym (ap (λ (x : Trace). held_all m (others last x.path)) e)
+
+module _ (count : ℕ) (img : List ℕ) (limit last : ℕ) (p : Place) (ends : Ends img count p limit) (m : List ℕ) where
+  abbrev back_step : Step Place
+  back_step = told_back (step (back_rule count limit) (read_at img) (wide p))
+
+  abbrev held_from : List ℕ → Place → List ℕ
+  held_from l q = held_all l (others last (walk_back count (read_at img) limit q).path)
+
+  -- where the step back reaches a page, it is held, and then those after it
+  pub held_on : (q : Place) (m' : List ℕ) → Reaches q ≡ back_step → m' ≡ held_all m (others last (q.page_id ∷ []))
+      → (q.seq < p.seq) × Ends img count q limit × (held_from m' q ≡ held_from m p)
+  held_on q m' s h =
+      let w = says_back count (read_at img) limit p (Reaches q) s in
+      (w.1, ends_through (wide p) (wide q) _ _ _ w.0 ends, held_reaches last m _ m' q.page_id _ w.0 h)
+
+  -- where it reaches none, the walk is at its end
+  pub held_ended : (x : Step Place) → x ≡ back_step → ((q : Place) → x ≡ Reaches q → ⊥) → m ≡ held_from m p
+  held_ended Stays s n = held_stays last m _ (wide p) (says_back count (read_at img) limit p Stays s)
+  held_ended Breaks s n = absurd (ends_not (wide p) _ ends (says_back count (read_at img) limit p Breaks s))
+  held_ended (Reaches q) s n = absurd (n q refl)
 
 -- a page that is held stays so
 others_held : (p : ℕ) (m l : List ℕ) → set m p held ≡ m → held_all m (others p l) ≡ held_all m l

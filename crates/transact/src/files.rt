@@ -1,10 +1,11 @@
 // What calls make of a file's record.
-#![tactic(auto, unfolding(crate::specs::Truncate::emptied, crate::specs::Truncate::cut, crate::specs::Truncate::advanced, state::specs::Values::empty_record))]
+#![tactic(auto, unfolding(crate::specs::Truncate::emptied, crate::specs::Truncate::cut, crate::specs::Truncate::advanced, state::specs::Values::empty_record, state::specs::Values::with_file))]
 
-ghost use Rattle.std.specs.Prelude.{◌≡◌};
+ghost use Rattle.std.specs.Prelude.{◌≡◌, ◌<◌};
+ghost use Rattle.state.specs.Values.{with_file, opened};
 ghost use Rattle.transact.specs.Truncate.{new_first, emptied, cut};
 
-use state::types::FileRecord;
+use state::types::{FileRecord, State, Table};
 
 // first_seq advanced by the smaller of bytes and length.
 pub fn new_first(f: &FileRecord, bytes: usize) -> u32
@@ -36,4 +37,13 @@ pub fn cut(f: &FileRecord, first: u32) -> FileRecord
         first_seq: first,
         ..*f
     }
+}
+
+// A change of one file, which opens a transaction.
+pub fn change(table: &mut Table, state: &mut State, i: usize, f: FileRecord)
+    requires { i < 8 }
+    ensures { (table.new ≡ with_file table.old i f) × (state.new ≡ opened state.old) }
+{
+    table.files[i] = f;
+    *state = state::values::open_transaction(*state);
 }

@@ -1,4 +1,6 @@
 // Truncate: first_seq advances, and the pages that are not reached any more are held.
+#![tactic(auto, unfolding(crate::specs::Truncate::truncate, crate::specs::Truncate::truncate_in), using(state::proofs::Laws::checks_pass, crate::proofs::Steps::edge_says, crate::proofs::Steps::edge_not, crate::proofs::Exits::truncate_damaged, crate::proofs::Exits::truncate_held))]
+
 ghost use Rattle.std.specs.Prelude.{◌≡◌};
 ghost use Rattle.state.specs.World.{before, yields, promised};
 ghost use Rattle.transact.specs.Truncate.{truncate};
@@ -22,16 +24,17 @@ pub fn truncate(
     if bytes == 0 {
         return Ok(());
     }
-    let f = &mut table.files[file as usize];
+    let i = file as usize;
+    let f = &table.files[i];
     if f.is_empty() {
-        *f = files::emptied();
-    } else {
-        let count = state.page_count as usize;
-        let first = files::new_first(f, bytes);
-        let edge = walk::edge_of(image, count, f, first).ok_or(Refusal::Damaged)?;
-        walk::hold_unreached(image, map, count, f, first, edge);
-        *f = files::cut(f, first);
+        files::change(table, state, i, files::emptied());
+        return Ok(());
     }
-    *state = state::values::open_transaction(*state);
+    let count = state.page_count as usize;
+    let first = files::new_first(f, bytes);
+    let edge = walk::edge_of(image, count, f, first).ok_or(Refusal::Damaged)?;
+    walk::hold_unreached(image, map, count, f, first, edge);
+    let shorter = files::cut(f, first);
+    files::change(table, state, i, shorter);
     Ok(())
 }
