@@ -1,5 +1,5 @@
 -- Parts of a text, and pieces put behind each other into a buffer. Assumes nothing: these are definitions.
-use Rattle.std.specs.Prelude.{ℕ, ◌+◌, ◌/◌, ◌%◌, List, [], ◌∷◌, Bool, Option, Some, None, cond, leb, ltb, eqb, length, drop}
+use Rattle.std.specs.Prelude.{ℕ, ◌+◌, ◌/◌, ◌%◌, List, [], ◌∷◌, Bool, Option, Some, None, cond, leb, ltb, eqb, length, drop, ◌≡◌}
 use Prim.Native.Char.{code}
 use Prim.Native.String.{String, [] as end, ◌∷◌ as ◌then◌}
 use Rattle.runs.specs.Runs.{placed}
@@ -37,6 +37,11 @@ words (x ∷ l) = cond (eqb x 32) ([] ∷ words l) (glued x (words l))
 abbrev pub words_of : Option (List ℕ) → List (List ℕ)
 words_of None = []
 words_of (Some l) = words l
+
+-- the first of the words is taken, and none is left behind the last
+abbrev pub next_word : List (List ℕ) → Option (List ℕ) → List (List ℕ) → Type 0
+next_word ws None vs = (ws ≡ []) × (vs ≡ [])
+next_word ws (Some w) vs = ws ≡ w ∷ vs
 
 -- the index behind n bytes that are put at an index, and the buffer's end where they do not fit
 abbrev pub behind : ℕ → ℕ → ℕ → ℕ

@@ -1,9 +1,10 @@
 // Parts of a text, and pieces put behind each other into a lent buffer.
-ghost use Rattle.std.specs.Prelude.{◌≡◌, ◌+◌, ◌*◌, ◌<◌, ◌≤◌, ◌++◌, [], List, ℕ, Option, length, OnOk, IfNone};
-ghost use Rattle.std.specs.Option.{option_copied, option_to_list};
+ghost use Rattle.std.specs.Prelude.{◌≡◌, ◌+◌, ◌*◌, ◌<◌, ◌≤◌, ◌++◌, [], List, ℕ, Option, length, OnOk};
+ghost use Rattle.std.specs.Option.{option_copied};
+ghost use Rattle.std.specs.Iterator.{at_most};
 ghost use Rattle.io.specs.Digits.{IsDigitCount};
 ghost use Rattle.runs.specs.Runs.{part_of, splice};
-ghost use Rattle.script.specs.Text.{until, rest, words, words_of, behind, Spot, spot, put, hex_digit, hex_digits};
+ghost use Rattle.script.specs.Text.{until, rest, words, words_of, next_word, behind, Spot, spot, put, hex_digit, hex_digits};
 ghost use Rattle.script.specs.Say.{decimal};
 
 use std::marker::Model;
@@ -37,11 +38,16 @@ impl<'a> Words<'a> {
     {
         Words { rest: Some(text) }
     }
+}
 
-    pub fn next(&mut self) -> Option<&'a [u8]>
-        ensures cases { self.old ≡ option_to_list (option_copied result) ++ self.new }
-        ensures end { IfNone result (self.new ≡ []) }
-    {
+impl<'a> Iterator for Words<'a> {
+    type Item = &'a [u8];
+
+    ghost next_gives = { λ s r t. next_word s (option_copied r) t };
+
+    ghost remaining = { λ s. at_most (length s) };
+
+    fn next(&mut self) -> Option<&'a [u8]> {
         let (word, rest) = cut(self.rest?, b' ');
         self.rest = rest;
         Some(word)
