@@ -1,11 +1,5 @@
 -- What answers rest on: a call's outcome with its answer, buffers of which a part is lent, and bytes that are read. Assumes nothing.
-<<<<<<< HEAD
-use Rattle.std.specs.Prelude.{Result}
-use Rattle.state.specs.declared.types.Refusal.{Refusal}
-use Prim.Native.Nat.{ℕ, ◌+◌, ◌-◌, ◌≤◌, min}
-=======
 use Prim.Native.Nat.{ℕ, ◌+◌, ◌≤◌, min}
->>>>>>> 04e11897032b3b9764fd6d2755fffa7ae831070f
 use mathlib.Core.Path.{◌≡◌, refl, ap}
 use mathlib.Core.List.{List, ◌++◌}
 use native.Mathlib.Decide.{dec_le}
@@ -13,29 +7,11 @@ use native.Mathlib.Nat.{min-eq_left, min-eq_right}
 use native.Mathlib.Omega.{arith}
 use lib.ListN.{length, take, drop, drop_of_length-le}
 use lib.Seq.{take_all, take_at}
-<<<<<<< HEAD
-use borrow.Rule.Slice.PartMut.{put_mid}
-use Rattle.runs.specs.Runs.{part, part_of, splice}
-use Rattle.runs.proofs.Laws.{put_splice, part_of_in, length_splice}
-use Rattle.state.specs.World.{After, in_numbers}
-use Rattle.state.specs.Refusals.{numbers, on_done, Done}
-use Rattle.state.proofs.Numbers.{numbers_same, outcome_same}
-use Rattle.search.specs.declared.Answer.{Answer}
-use Rattle.search.specs.Search.{answer_numbers}
-use Rattle.search.proofs.Numbers.{answer_same}
-use Rattle.reader.specs.declared.ReadOut.{ReadOut}
-use Rattle.reader.specs.Read.{AfterRead, after_read, read_told}
-use Rattle.reader.specs.declared.Located.{Located}
-use Rattle.reader.specs.Locate.{located_numbers}
-use Rattle.reader.specs.Skip.{skipped_numbers}
-use Rattle.reader.proofs.Numbers.{read_same, located_same, skipped_same}
-=======
 use Rattle.runs.specs.Runs.{splice}
 use Rattle.state.specs.Refusals.{on_done}
 use Rattle.reader.specs.declared.ReadOut.{ReadOut}
 use Rattle.reader.specs.Read.{AfterRead, after_read, read_told}
 use Rattle.reader.proofs.Numbers.{read_same}
->>>>>>> 04e11897032b3b9764fd6d2755fffa7ae831070f
 use Rattle.script.specs.declared.command.Command.{Command}
 use Rattle.script.specs.declared.command.Command.TheVariants as C
 use Rattle.script.specs.declared.command.Setup.{Setup}
@@ -46,33 +22,6 @@ use Rattle.answers.specs.World.{Turned, left, scene}
 use Rattle.answers.specs.Calls.{sight, read_by}
 use Rattle.answers.specs.Answer.{on_lent, rejoined, on_buffers, on_command}
 
-<<<<<<< HEAD
--- a call's outcome with its answer: the promise's equation of numbers is one of answers
-told_left : {A : Type 0} (f : A → List ℕ) → ((a b : A) → f a ≡ f b → a ≡ b) → (say : A → List (List ℕ)) (w : World) (p : Spot) (t : Turned) (x a : After A)
-    → t ≡ told_by w p (say x.answer) x.world.table x.world.state → in_numbers f x ≡ in_numbers f a → left x.world.image x.world.map t ≡ told say w p a
-told_left f same say w p t x a e g = rw e (ap (told say w p) (outcome_same f same x a g))
-
-pub done_left : (w : World) (p : Spot) (t : Turned) (x a : After Done) → t ≡ told_by w p (say.done x.answer) x.world.table x.world.state
-    → in_numbers numbers x ≡ in_numbers numbers a → left x.world.image x.world.map t ≡ told say.done w p a
-done_left = told_left numbers numbers_same say.done
-
-pub sought_left : (w : World) (p : Spot) (t : Turned) (x a : After Answer) → t ≡ told_by w p (sought x.answer) x.world.table x.world.state
-    → in_numbers answer_numbers x ≡ in_numbers answer_numbers a → left x.world.image x.world.map t ≡ told sought w p a
-sought_left = told_left answer_numbers answer_same sought
-
--- a value's answer, where the call changes nothing
-pub located_left : (p s : Spot) (f g : Located) → s ≡ puts p (located f) → located_numbers f ≡ located_numbers g → s ≡ puts p (located g)
-located_left p s f g e h = rw (← located_same f g h) e
-
-pub skipped_left : (p s : Spot) (f g : Result ℕ Refusal) → s ≡ puts p (skipped f) → skipped_numbers f ≡ skipped_numbers g → s ≡ puts p (skipped g)
-skipped_left p s f g e h = rw (← skipped_same f g h) e
-
--- an answer alone
-pub said_left : (i m : List ℕ) (w : World) (s q : Spot) → s ≡ q → ◌≡◌ {A = Left} (left i m (record { out = s; world = w })) (left i m (record { out = q; world = w }))
-said_left i m w s q e = rw e
-
-=======
->>>>>>> 04e11897032b3b9764fd6d2755fffa7ae831070f
 -- ---- what is lent
 
 -- as many of a buffer as there are
