@@ -7,7 +7,6 @@ use mathlib.Core.List.{List, [], ◌∷◌}
 use Prim.Native.Nat.{ℕ, zero, suc, ◌+◌, ◌≤◌, ◌<◌}
 use native.Mathlib.Numerals.{add-one}
 use native.Mathlib.Omega.{arith}
-use borrow.Author.Tests.{eq-eqb, ne_eqb}
 use lib.Dec.{eqb}
 use Rattle.page.specs.declared.MetaHeader.{MetaHeader}
 use Rattle.page.specs.Page.{page_of, meta_of}
@@ -18,15 +17,6 @@ use Rattle.volume.specs.Format.{erased_if, erasures, first_meta, format_stores}
 -- ---- one page
 
 module _ (p n : ℕ) (x : Option MetaHeader) where
-  pub erased_found : (img : List ℕ) (m : MetaHeader) → x ≡ Some m → stored img (erase n) ≡ ran img (erased_if p n x)
-  erased_found img m e = rw e
-
-  pub erased_own : (img : List ℕ) → x ≡ None → n ≡ p → stored img (erase n) ≡ ran img (erased_if p n x)
-  erased_own img e h = rw (e, eq-eqb n p h)
-
-  pub erased_kept : (img : List ℕ) → x ≡ None → (n ≡ p → ⊥) → img ≡ ran img (erased_if p n x)
-  erased_kept img e h = rw (e, ne_eqb n p h)
-
   -- it is an erase of that page, or nothing
   pub erased_on : Every (λ s. s ≡ erase n) (erased_if p n x)
   erased_on = by x

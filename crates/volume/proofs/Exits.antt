@@ -194,11 +194,8 @@ module _ (img : List ℕ) (n : ℕ) (b : Best) where
     where
       by : (t : Bool) → best_ok n b ≡ t → best_ok n b ≡ true
       by true h = h
-      by false h = let y : bad ≡ good x = from_no_best h ∙ e in let z : ◌≡◌ {A = ℕ} 0 1 = cc in absurd (omega arith)
+      by false h = let y : bad ≡ good x = from_no_best h ∙ e in cc
 
-  -- what the code's answer says
-  pub all_good : (t : Table) (m : List ℕ) → all_as (Some t) m ≡ mount_from img n b → mount_from img n b ≡ good (record { files = t.files; map = m })
-  all_good t m e = sym e
-
+  -- and so did one of which the code has all files
   pub all_chosen : (t : Table) (m : List ℕ) → all_as (Some t) m ≡ mount_from img n b → Chosen
   all_chosen t m e = chosen (from_good_best _ (sym e))

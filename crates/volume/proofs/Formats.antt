@@ -34,7 +34,7 @@ use Rattle.volume.specs.Mount.{claim, mount}
 use Rattle.volume.specs.Mounted.{Wins, FileIs, FilesAre, all_pages, Mounted, finds}
 use Rattle.volume.proofs.Erasures.{erased_on, erasures_above, format_stores_lem}
 use Rattle.volume.proofs.Marks.{marks_say}
-use Rattle.volume.proofs.Scans.{found_one}
+use Rattle.std.proofs.lemmas.Option.{same_Some}
 use Rattle.volume.proofs.Loaded.{pages_empty}
 use Rattle.volume.proofs.Mounts.{mount_finds}
 
@@ -125,8 +125,8 @@ module _ (img : List ℕ) (n p : ℕ) (whole : length img ≡ 256 * n) (inside :
   only q m h e = by (ℕ_discrete q p)
     where
       by : Dec (q ≡ p) → (q ≡ p) × (m ≡ first_meta n)
-      by (yes k) = let z : Some m ≡ Some (first_meta n) = sym e ∙ ap (λ (q : ℕ). meta_of (page_of made q)) k ∙ own_meta in (k, found_one m (first_meta n) z)
-      by (no k) = let z : None ≡ Some m = sym (other_meta q h k) ∙ e in absurd (let y : ◌≡◌ {A = ℕ} 0 1 = cc in omega arith)
+      by (yes k) = let z : Some m ≡ Some (first_meta n) = sym e ∙ ap (λ (q : ℕ). meta_of (page_of made q)) k ∙ own_meta in (k, same_Some m (first_meta n) z)
+      by (no k) = let z : None ≡ Some m = sym (other_meta q h k) ∙ e in cc
 
   own_wins : Wins made n (best_of p (first_meta n))
   own_wins =

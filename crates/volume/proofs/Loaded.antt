@@ -31,11 +31,8 @@ use Rattle.state.specs.Values.{empty_record}
 use Rattle.state.proofs.Laws.{both}
 use Rattle.volume.specs.Mount.{Maybe, bad, good, bind, claim, claimed, Loaded, record_of, loaded_by, load, LoadedAll, load_from}
 use Rattle.volume.specs.Mounted.{Sound, FileIs, FilesAre, pages_of, all_pages}
-use Rattle.volume.proofs.Marks.{bad_not, each_append, claim_append}
+use Rattle.volume.proofs.Marks.{each_append, claim_append}
 use Rattle.volume.proofs.Exits.{load_none, load_live, load_at}
-
-good_one : {A : Type 0} (x y : A) → good x ≡ good y → x ≡ y
-good_one x y e = cc
 
 -- ---- the pages of a record
 
@@ -60,14 +57,14 @@ module _ (img : List ℕ) (count : ℕ) where
     unfolding load claim
     load_says inside x e =
         cond_by (eqb p none) _ _ _ e
-        (λ t e. subst Says (good_one (record { file = empty_record; map = m }) x e) (inl (eqb-true p none t, refl), ap (claim m) pages_empty))
+        (λ t e. let z : record { file = empty_record; map = m } ≡ x = cc in subst Says z (inl (eqb-true p none t, refl), ap (claim m) pages_empty))
         (λ t e. read (eqb-false p none t) (read_at img p) refl e)
       where
         walked : (some : p ≡ none → ⊥) (h : DataHeader) → read_at img p ≡ readable h → (leb (h.seq + h.length) limit && ltb first (h.seq + h.length)) ≡ true
             → let f = record_of p first flags h in
             let t = walk count (read_at img) first (last_of f) in
             (s : Sought) → t.ends ≡ s → bind (claimed m (last_of f) t s) (λ m'. good (record { file = f; map = m' })) ≡ good x → Says x
-        walked some h r k damaged w e = absurd (bad_not e)
+        walked some h r k damaged w e = cc
         walked some h r k (at q) w e = by (claim m (visited (last_of f) t)) refl e
           where
             f : FileRecord
@@ -81,9 +78,10 @@ module _ (img : List ℕ) (count : ℕ) where
 
             by : (c : Maybe (List ℕ)) → claim m (visited (last_of (record_of p first flags h)) (walk count (read_at img) first (last_of (record_of p first flags h)))) ≡ c
                 → bind c (λ m'. good (record { file = record_of p first flags h; map = m' })) ≡ good x → Says x
-            by bad c e = absurd (bad_not e)
+            by bad c e = cc
             by (good m') c e =
-                subst Says (good_one (record { file = record_of p first flags h; map = m' }) x e) (
+                let z : record { file = record_of p first flags h; map = m' } ≡ x = cc in
+                subst Says z (
                   inr (record {
                     some = some;
                     inside = inside some;
@@ -99,17 +97,17 @@ module _ (img : List ℕ) (count : ℕ) where
                 )
 
         read : (p ≡ none → ⊥) → (r : Read) → read_at img p ≡ r → loaded_by img count m p first flags r ≡ good x → Says x
-        read some unreadable r e = absurd (bad_not e)
+        read some unreadable r e = cc
         read some (readable h) r e =
             cond_by (leb (h.seq + h.length) limit && ltb first (h.seq + h.length)) _ _ _ e
-            (λ k e. walked some h r k (walk count (read_at img) first (last_of (record_of p first flags h))).ends refl e) (λ k e. absurd (bad_not e))
+            (λ k e. walked some h r k (walk count (read_at img) first (last_of (record_of p first flags h))).ends refl e) (λ k e. cc)
 
     pub load_is : (f : FileRecord) (m' : List ℕ) → FileIs img count p first flags f → claim m (pages_of img count f) ≡ good m'
         → load img count m p first flags ≡ good (record { file = f; map = m' })
     unfolding claim
     load_is f m' (inl i) c =
         let e : good m ≡ good m' = sym (ap (claim m) (ap (pages_of img count) i.1 ∙ pages_empty)) ∙ c in
-        sym (load_none img count m p first flags i.0) ∙ rw (i.1, good_one m m' e)
+        sym (load_none img count m p first flags i.0) ∙ (let z : m ≡ m' = cc in rw (i.1, z))
     load_is f m' (inr i) c =
         let h = i.header in
         let g = record_of p first flags h in
@@ -129,30 +127,31 @@ module _ (img : List ℕ) (count : ℕ) where
 
     pub from_says : Inside f → (i n : ℕ) (m : List ℕ) → i + n ≤ 8 → (y : LoadedAll) → load_from img count f i n m ≡ good y → AllSay m i n y
     unfolding load_from claim
-    from_says inside i zero m h y e = subst (AllSay m i zero) (good_one (record { files = []; map = m }) y e) (tt, refl, refl)
+    from_says inside i zero m h y e = let z : record { files = []; map = m } ≡ y = cc in subst (AllSay m i zero) z (tt, refl, refl)
     from_says inside i (suc n) m h y e =
         first (load_at img count f i m) refl e (λ m z e. from_says inside (suc i) n m (omega arith) z e)
       where
         rest : (x : Loaded) → load_at img count f i m ≡ good x → (r : Maybe LoadedAll) → load_from img count f (suc i) n x.map ≡ r
             → bind r (λ z. good (record { files = x.file ∷ z.files; map = z.map })) ≡ good y
             → ((z : LoadedAll) → load_from img count f (suc i) n x.map ≡ good z → AllSay x.map (suc i) n z) → AllSay m i (suc n) y
-        rest x l bad q e ih = absurd (bad_not e)
+        rest x l bad q e ih = cc
         rest x l (good z) q e ih =
             let a = load_says m (get_or f.last i 0) (get_or f.first i 0) (get_or f.flags i 0) (inside i (omega arith)) x l in
             let b = ih z q in
-            subst (AllSay m i (suc n)) (good_one (record { files = x.file ∷ z.files; map = z.map }) y e)
+            let k : record { files = x.file ∷ z.files; map = z.map } ≡ y = cc in
+            subst (AllSay m i (suc n)) k
             ((a.0, b.0), ap suc b.1, claim_append m (pages_of img count x.file) (all_pages img count z.files) ∙ rw a.1 b.2)
 
         first : (r : Maybe Loaded) → load_at img count f i m ≡ r
             → bind r (λ x. bind (load_from img count f (suc i) n x.map) (λ z. good (record { files = x.file ∷ z.files; map = z.map }))) ≡ good y
             → ((m : List ℕ) (z : LoadedAll) → load_from img count f (suc i) n m ≡ good z → AllSay m (suc i) n z) → AllSay m i (suc n) y
-        first bad l e ih = absurd (bad_not e)
+        first bad l e ih = cc
         first (good x) l e ih = rest x l (load_from img count f (suc i) n x.map) refl e (ih x.map)
 
     pub from_is : (i : ℕ) (m : List ℕ) (l : List FileRecord) (m' : List ℕ) → FilesAre img count f i l → claim m (all_pages img count l) ≡ good m'
         → load_from img count f i (length l) m ≡ good (record { files = l; map = m' })
     unfolding load_from claim
-    from_is i m [] m' a c = rw (good_one m m' c)
+    from_is i m [] m' a c = let z : m ≡ m' = cc in rw z
     from_is i m (g ∷ l) m' a c =
         by (claim m (pages_of img count g)) refl (sym (claim_append m (pages_of img count g) (all_pages img count l)) ∙ c)
         (λ m₁ c. from_is (suc i) m₁ l m' a.1 c)
@@ -161,7 +160,7 @@ module _ (img : List ℕ) (count : ℕ) where
             → ((m : List ℕ) → claim m (all_pages img count l) ≡ good m' → load_from img count f (suc i) (length l) m ≡ good (record { files = l; map = m' }))
             → bind (load_at img count f i m) (λ x. bind {B = LoadedAll} (load_from img count f (suc i) (length l) x.map) (λ z. good (record { files = x.file ∷ z.files; map = z.map })))
             ≡ good (record { files = g ∷ l; map = m' })
-        by bad q e ih = absurd (bad_not e)
+        by bad q e ih = cc
         by (good m₁) q e ih = rw (load_is m (get_or f.last i 0) (get_or f.first i 0) (get_or f.flags i 0) g m₁ a.0 q, ih m₁ e)
 
     -- ---- their pages

@@ -39,9 +39,6 @@ each_append P (p ∷ a) b d e = (d.0, each_append P a b d.1 e)
 
 -- ---- claims
 
-pub bad_not : {A : Type 0} {x : A} → bad ≡ good x → ⊥
-bad_not e = let z : ◌≡◌ {A = ℕ} 0 1 = cc in omega arith
-
 -- what a claim that succeeds says
 pub record Claimed (m l m' : List ℕ) : Type 0 where
   pub free : Each (λ q. get_or m q 0 ≡ 0) l
@@ -88,7 +85,7 @@ claim_says m (p ∷ l) m' i e =
           (λ s. c.marked q s) h;
       kept = λ q h. c.kept q (λ k. h (inr k)) ∙ before q (λ k. h (inl k));
     })
-    (λ t e. absurd (bad_not e))
+    (λ t e. cc)
 
 -- and free pages, no two the same, are claimed
 pub claims : (m l : List ℕ) → Each (λ q. get_or m q 0 ≡ 0) l → Distinct l → (m' : List ℕ) × (claim m l ≡ good m')

@@ -1,5 +1,4 @@
 -- Mount in declarative words, both ways, and mounting again. Assumes nothing.
-use Rattle.std.specs.Prelude.{Err}
 use Rattle.state.specs.Refusals.{Done, fine}
 use mathlib.Core.Path.{◌≡◌, refl, sym, ap, ◌∙◌, subst}
 use mathlib.Core.Bool.{Bool, true, false, cond}
@@ -15,7 +14,6 @@ use Rattle.map.specs.Map.{cleared, used}
 use Rattle.state.specs.declared.types.Table.{Table}
 use Rattle.state.specs.declared.types.State.{State}
 use Rattle.state.specs.declared.types.FileRecord.{FileRecord}
-use Rattle.state.specs.declared.types.Refusal.{Refusal}
 use Rattle.state.specs.declared.types.Refusal.TheVariants.{BadSize}
 use Rattle.state.specs.Values.{settled}
 use Rattle.state.specs.Checks.{sizes}
@@ -25,7 +23,7 @@ use Rattle.volume.specs.Scan.{scan}
 use Rattle.volume.specs.Mount.{Maybe, bad, good, LoadedAll, load_from, best_ok, mount_from, mounted_as, mount_best, mount_with, mount}
 use Rattle.volume.specs.Mounted.{Wins, all_pages, Mounted, finds, Succeeds}
 use Rattle.volume.proofs.Scans.{scan_wins, wins_scan}
-use Rattle.volume.proofs.Marks.{bad_not, each_map, marks_say, marks_are}
+use Rattle.volume.proofs.Marks.{each_map, marks_say, marks_are}
 use Rattle.volume.proofs.Loaded.{from_says, from_is, all_inside, inside_adds, inside_none, sound_sounds, sounds_sound}
 use Rattle.volume.proofs.Exits.{chosen, from_no_log, from_log, from_good_best}
 
@@ -43,7 +41,7 @@ module _ (img : List ℕ) (n : ℕ) (b : Best) where
     where
       by : (t : Bool) → (replay_of count img b.page).ok ≡ t → (replay_of count img b.page).ok ≡ true
       by true h = h
-      by false h = absurd (bad_not (from_no_log img n b (from_good_best img n b x e) _ refl h ∙ e))
+      by false h = let z : bad ≡ good x = from_no_log img n b (from_good_best img n b x e) _ refl h ∙ e in cc
 
   -- what mounts is mounted
   pub from_mounted : Wins img n b → (x : LoadedAll) → mount_from img n b ≡ good x → Mounted img n b x.files x.map
@@ -93,9 +91,6 @@ module _ (img : List ℕ) (n : ℕ) (b : Best) where
 
 -- ---- the call
 
-refused_not : {why : Refusal} → Err why ≡ fine → ⊥
-refused_not e = let z : ◌≡◌ {A = ℕ} 0 1 = cc in omega arith
-
 module _ (w : World) where
   abbrev pages : ℕ
   pages = length w.map
@@ -114,7 +109,7 @@ module _ (w : World) where
     where
       by : (t : Bool) → sizes (length w.image) pages ≡ t → (cond t (mount_best w found) (refuse w BadSize)).answer ≡ fine → sizes (length w.image) pages ≡ true
       by true e h = e
-      by false e h = absurd (refused_not h)
+      by false e h = cc
 
   -- a mount that succeeds
   pub mount_says : (mount w).answer ≡ fine → Succeeds w (mount w)
@@ -124,7 +119,7 @@ module _ (w : World) where
     where
       by : sizes (length w.image) pages ≡ true → (r : Maybe LoadedAll) → mount_from w.image pages found ≡ r
           → (mounted_as w pages (seed_after w.state.seed) found r).answer ≡ fine → Succeeds w (mount w)
-      by fit bad e h = absurd (refused_not h)
+      by fit bad e h = cc
       by fit (good x) e h =
           let c = chosen w.image pages found (from_good_best w.image pages found x e) in record {
             fit = fit;

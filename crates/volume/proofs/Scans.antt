@@ -6,29 +6,15 @@ use mathlib.Core.List.{List}
 use Prim.Native.Nat.{ℕ, zero, suc, ◌+◌, ◌≤◌, ◌<◌}
 use native.Mathlib.Numerals.{add-one}
 use native.Mathlib.Omega.{arith}
-use borrow.Author.Tests.{lt-ltb, le-ltb, ltb-true, ltb-false}
+use borrow.Author.Tests.{ltb-true, ltb-false}
 use lib.Dec.{ltb}
 use Rattle.page.specs.declared.MetaHeader.{MetaHeader}
 use Rattle.page.specs.Page.{page_of, meta_of}
 use Rattle.page.proofs.Laws.{split}
+use Rattle.std.proofs.lemmas.Option.{same_Some}
 use Rattle.volume.specs.declared.Best.{Best}
 use Rattle.volume.specs.Scan.{best_of, better, scan}
 use Rattle.volume.specs.Mounted.{Wins}
-
--- ---- one page
-
-module _ (b : Best) (p : ℕ) (x : Option MetaHeader) where
-  pub better_none : x ≡ None → b ≡ better b p x
-  unfolding better
-  better_none e = rw e
-
-  pub better_higher : (m : MetaHeader) → x ≡ Some m → b.seq < m.seq → best_of p m ≡ better b p x
-  unfolding better
-  better_higher m e h = rw (e, lt-ltb b.seq m.seq h)
-
-  pub better_lower : (m : MetaHeader) → x ≡ Some m → m.seq ≤ b.seq → b ≡ better b p x
-  unfolding better
-  better_lower m e h = rw (e, le-ltb b.seq m.seq h)
 
 -- ---- a page more
 
@@ -43,12 +29,6 @@ pub record Scanned (img : List ℕ) (n : ℕ) (b : Best) : Type 0 where
   pub most : (q : ℕ) (m : MetaHeader) → q < n → meta_of (page_of img q) ≡ Some m → m.seq ≤ b.seq
   pub wins : 1 ≤ b.seq → Wins img n b
 
-clash : {m : MetaHeader} → None ≡ Some m → ⊥
-clash e = let z : ◌≡◌ {A = ℕ} 0 1 = cc in omega arith
-
-pub found_one : (m m' : MetaHeader) → Some m ≡ Some m' → m ≡ m'
-found_one m m' e = cc
-
 module _ (img : List ℕ) where
   -- the page under n, or an earlier one
   below : {R : Type 0} (n q : ℕ) → q < suc n → (q < n → R) → (q ≡ n → R) → R
@@ -58,12 +38,12 @@ module _ (img : List ℕ) where
   unfolding better
   scanned_better n b None e s =
       record {
-        most = λ q m h r. below n q h (λ k. s.most q m k r) (λ k. absurd (clash (sym e ∙ ap (λ (q : ℕ). meta_of (page_of img q)) (sym k) ∙ r)));
+        most = λ q m h r. below n q h (λ k. s.most q m k r) (λ k. let z : None ≡ Some m = sym e ∙ ap (λ (q : ℕ). meta_of (page_of img q)) (sym k) ∙ r in cc);
         wins = λ o. let w = s.wins o in record {
           inside = omega (arith, w.inside);
           reads = w.reads;
           some = w.some;
-          most = λ q m h r. below n q h (λ k. s.most q m k r) (λ k. absurd (clash (sym e ∙ ap (λ (q : ℕ). meta_of (page_of img q)) (sym k) ∙ r)));
+          most = λ q m h r. below n q h (λ k. s.most q m k r) (λ k. let z : None ≡ Some m = sym e ∙ ap (λ (q : ℕ). meta_of (page_of img q)) (sym k) ∙ r in cc);
           lowest = w.lowest;
         };
       }
@@ -107,7 +87,7 @@ module _ (img : List ℕ) where
       (λ h. absurd (omega (arith, v.lowest b.page _ h w.reads))) in
       let r : Some (record { page_count = a.page_count; seq = a.seq }) ≡ Some (record { page_count = b.page_count; seq = b.seq }) =
       sym v.reads ∙ ap (λ (q : ℕ). meta_of (page_of img q)) p ∙ w.reads in
-      let h = found_one _ _ r in
+      let h = same_Some _ _ r in
       let c : a.page_count ≡ b.page_count = ap (λ (m : MetaHeader). m.page_count) h in
       λ i. record { page = p i; page_count = c i; seq = s i }
 

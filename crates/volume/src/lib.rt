@@ -101,7 +101,12 @@ fn fresh_map(map: &mut [u8], count: usize, p: usize)
 }
 
 #[tactic(auto, using(state::proofs::Laws::sizes_say, map::proofs::Laws::beyond_inside, crate::proofs::Calls::format_refused, crate::proofs::Calls::format_done))]
-pub fn format(image: &mut [u8], map: &mut [u8], table: &mut Table, state: &mut State) -> Result<(), Refusal>
+pub fn format(
+    image: &mut [u8],
+    map: &mut [u8],
+    table: &mut Table,
+    state: &mut State,
+) -> Result<(), Refusal>
     ensures { yields result image.new map.new table.new state.new ≡ promised format (before image.old map.old table.old state.old) }
 {
     let n = map.len();
@@ -150,7 +155,14 @@ fn claim_walk(image: &[u8], count: usize, map: &mut [u8], p: &PagePointer, first
 
 // The file whose last page is p, as an entry has it, if its pages are there and none is another's.
 #[tactic(auto, using(crate::proofs::Exits::load_empty, crate::proofs::Exits::load_unread, crate::proofs::Exits::load_past, crate::proofs::Exits::load_over, crate::proofs::Exits::load_claimed, crate::proofs::Exits::load_unclaimed))]
-fn load(image: &[u8], count: usize, map: &mut [u8], p: u16, first: u32, flags: u8) -> Option<FileRecord>
+fn load(
+    image: &[u8],
+    count: usize,
+    map: &mut [u8],
+    p: u16,
+    first: u32,
+    flags: u8,
+) -> Option<FileRecord>
     ensures { loaded_as result map.new ≡ load image.now count map.old p first flags }
 {
     if p == seq::ids::NONE {
@@ -209,7 +221,13 @@ fn load_best(image: &[u8], map: &mut [u8], b: &Best) -> Option<Table>
 }
 
 #[tactic(auto, using(crate::proofs::Exits::all_chosen, crate::proofs::Calls::mount_done, crate::proofs::Calls::mount_damaged))]
-fn mount_best(image: &[u8], map: &mut [u8], table: &mut Table, state: &mut State, best: &Best) -> Result<(), Refusal>
+fn mount_best(
+    image: &[u8],
+    map: &mut [u8],
+    table: &mut Table,
+    state: &mut State,
+    best: &Best,
+) -> Result<(), Refusal>
     requires { length map.old ≤ 1024 }
     ensures { after result image.now map.new table.new state.new ≡ after_call (λ w. mount_best w best.now) (before image.now map.old table.old state.old) }
 {
@@ -235,7 +253,12 @@ fn mount_best(image: &[u8], map: &mut [u8], table: &mut Table, state: &mut State
 // ---- mount: the call
 
 #[tactic(auto, using(state::proofs::Laws::sizes_say, crate::proofs::Calls::mount_refused, crate::proofs::Calls::mount_is))]
-pub fn mount(image: &[u8], map: &mut [u8], table: &mut Table, state: &mut State) -> Result<(), Refusal>
+pub fn mount(
+    image: &[u8],
+    map: &mut [u8],
+    table: &mut Table,
+    state: &mut State,
+) -> Result<(), Refusal>
     ensures { yields result image.now map.new table.new state.new ≡ promised mount (before image.now map.old table.old state.old) }
 {
     let n = map.len();
