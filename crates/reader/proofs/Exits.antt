@@ -131,9 +131,9 @@ module _ (img : List ℕ) (count : ℕ) (f : FileRecord) (seq : ℕ) (x : Found)
     open_past k l = let m : h.seq + h.length ≤ seq = omega arith in rw (open_read, le-leb _ _ k, le-ltb _ _ m)
 
     -- it is one
-    pub open_holds_it : h.seq ≤ seq → seq - h.seq < h.length
-        → Some (record { page = x.page.page_id; off = seq - h.seq; left = h.length - (seq - h.seq) }) ≡ opening seq (open_at img count f seq)
-    open_holds_it k l =
+    pub open_held : h.seq ≤ seq → seq - h.seq < h.length
+        → Some (record { page = x.page.page_id; offset = seq - h.seq; left = h.length - (seq - h.seq) }) ≡ opening seq (open_at img count f seq)
+    open_held k l =
         let m : seq < h.seq + h.length = omega arith in
         let e : h.length - (seq - h.seq) ≡ h.seq + h.length - seq = omega arith in
         rw (open_read, open_holds x.page.page_id seq h k m, e)
@@ -182,10 +182,10 @@ behind_live f seq n low high fits = rw (le-ltb _ _ low, lt-leb _ _ high, le-ltb 
 
 -- ---- read
 
--- by the number behind the read's
-abbrev pub read_on : {A : Type 0} → Result ℕ Refusal → (Refusal → A) → A → A
-read_on (Err why) refuse go = refuse why
-read_on (Ok end) refuse go = go
+-- by whether the numbers are a file's
+abbrev on_end : {A : Type 0} → Result ℕ Refusal → (Refusal → A) → A → A
+on_end (Err why) refuse go = refuse why
+on_end (Ok end) refuse go = go
 
 module _ (img : List ℕ) (count : ℕ) (f : FileRecord) (r : Reader) (out : List ℕ) where
   pub read_none : length out ≡ 0 → read_kept r out fine ≡ read_in img count f r out
@@ -194,16 +194,17 @@ module _ (img : List ℕ) (count : ℕ) (f : FileRecord) (r : Reader) (out : Lis
 
   -- some bytes are asked for
   module _ (some : length out ≡ 0 → ⊥) where
-    abbrev go : AfterRead
-    go = cond (in_shape count f) (read_by r out (bytes_from img count f (length out) r.seq (length out))) (read_by r out none)
+    -- the number behind them is there
+    abbrev read_there : AfterRead
+    read_there = cond (in_shape count f) (read_by r out (bytes_from img count f (length out) r.seq (length out))) (read_by r out none)
 
-    read_some : read_on (behind f r.seq (length out)) (λ why. read_kept r out (Err why)) go ≡ read_in img count f r out
+    read_some : on_end (behind f r.seq (length out)) (λ why. read_kept r out (Err why)) read_there ≡ read_in img count f r out
     unfolding read_in behind
     read_some = rw (ne_eqb _ _ some) (by (ltb r.seq f.first_seq) (leb f.last_seq r.seq) (ltb f.last_seq (r.seq + length out)))
       where
         by : (a b c : Bool)
-            → read_on (cond a (Err Gone) (cond b (Err Eof) (cond c (Err Short) (Ok (r.seq + length out))))) (λ why. read_kept r out (Err why)) go
-            ≡ cond a (read_kept r out (Err Gone)) (cond b (read_kept r out (Err Eof)) (cond c (read_kept r out (Err Short)) go))
+            → on_end (cond a (Err Gone) (cond b (Err Eof) (cond c (Err Short) (Ok (r.seq + length out))))) (λ why. read_kept r out (Err why)) read_there
+            ≡ cond a (read_kept r out (Err Gone)) (cond b (read_kept r out (Err Eof)) (cond c (read_kept r out (Err Short)) read_there))
         by true b c = refl
         by false true c = refl
         by false false true = refl
