@@ -47,6 +47,7 @@ pub fn file_flags(table: &Table, file: u8) -> u8
 }
 
 // The files that have one of the flags, by their ids.
+#[tactic(auto, unfolding(crate::specs::Ask::flags_at))]
 pub fn files_with_flag(table: &Table, flag: u8) -> [bool; 8]
     ensures { result ≡ with_flag table.now flag }
 {

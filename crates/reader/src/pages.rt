@@ -13,7 +13,7 @@ use state::types::{FileRecord, Refusal};
 
 // An opened page, for a number that it holds: where the number's byte stands in the payload, and how many bytes there are from
 // it up to the end.
-#[derive(Clone, Copy, Debug, PartialEq, Eq)]
+#[derive(Clone, Copy)]
 pub struct Opening {
     pub page: u16,
     pub offset: u32,
@@ -76,10 +76,9 @@ pub fn locate_in(image: &[u8], count: usize, f: &FileRecord, seq: u32) -> Result
 fn land(image: &[u8], count: usize, f: &FileRecord, seq: u32) -> Result<u32, Refusal>
     ensures { result ≡ landed image.now count f.now seq }
 {
-    if seq == f.last_seq {
-        return Ok(seq);
-    }
-    if state::values::in_shape(f, count) && open_at(image, count, f, seq).is_some() {
+    if seq == f.last_seq
+        || state::values::in_shape(f, count) && open_at(image, count, f, seq).is_some()
+    {
         return Ok(seq);
     }
     Err(Refusal::Damaged)

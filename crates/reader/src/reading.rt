@@ -31,7 +31,7 @@ fn read_bytes(image: &[u8], count: usize, f: &FileRecord, seq: u32, out: &mut [u
 }
 
 // The output of a Damaged read is all zero.
-#[tactic(auto, using(crate::proofs::Exits::read_none, crate::proofs::Exits::read_refused_in))]
+#[tactic(auto, using(crate::proofs::Exits::read_none, crate::proofs::Exits::read_refused_in, crate::proofs::Bytes::read_whole, crate::proofs::Bytes::read_zero, crate::proofs::Bytes::read_lost))]
 pub fn read_in(
     image: &[u8],
     count: usize,
