@@ -154,12 +154,6 @@ module _ (img : List ℕ) (count : ℕ) (f : FileRecord) where
   abbrev pub rest : ℕ → ℕ → ℕ → List ℕ → Bytes
   rest seq n done out = before (take done out) (bytes (seq + done) (n - done))
 
-  pub rest_first : (seq n : ℕ) (out : List ℕ) → bytes seq n ≡ rest seq n 0 out
-  rest_first seq n out =
-      let a : seq + 0 ≡ seq = omega arith in
-      let b : n - 0 ≡ n = omega arith in
-      rw (a, b) (sym (before_nil (bytes seq n)))
-
   pub rest_last : (seq n : ℕ) (out : List ℕ) → length out ≤ n → rest seq n n out ≡ some out
   rest_last seq n out h = rw (sub_self n, bytes_empty 0 (seq + n), append-nil (take n out), take_all n out h)
 

@@ -40,19 +40,11 @@ pub known_file : (image map : ℕ) (s : State) (busy : Bool) (file : ℕ) (d : D
 known_file image map s busy file d is e = (checks_pass image map s busy file (sym is ∙ e)).known
 
 module _ (w : World) (file : ℕ) (d : Done) (is : d ≡ checks (length w.image) (length w.map) w.state w.state.transaction file) where
-  pub locate_refused : (seq : ℕ) (why : Refusal) → d ≡ Err why → Err why ≡ locate w file seq
-  unfolding locate
-  locate_refused seq why e = rw (← is, e)
-
   pub locate_fine : (seq : ℕ) → d ≡ fine → locate_in w.image w.state.page_count (file_at w.table file) seq ≡ locate w file seq
   unfolding locate
   locate_fine seq e = rw (← is, e)
 
 module _ (w : World) (r : Reader) (d : Done) (is : d ≡ checks (length w.image) (length w.map) w.state w.state.transaction r.file) where
-  pub read_refused : (out : List ℕ) (why : Refusal) → d ≡ Err why → read_kept r out d ≡ read w r out
-  unfolding read
-  read_refused out why e = rw (← is, e)
-
   pub read_fine : (out : List ℕ) → d ≡ fine → read_in w.image w.state.page_count (file_at w.table r.file) r out ≡ read w r out
   unfolding read
   read_fine out e = rw (← is, e)
@@ -160,18 +152,18 @@ shows img seq q h e t =
     }
 
 opened_read : (img : List ℕ) (seq q : ℕ) (x : Read) (p : PagePointer) → read_at img q ≡ x → opened_by q seq x ≡ shown p → Shows img seq p
-opened_read img seq q unreadable p e h = let z : ◌≡◌ {A = ℕ} 0 1 = cc in absurd (omega arith)
+opened_read img seq q unreadable p e h = cc
 opened_read img seq q (readable d) p e h =
     cond_by (holds d seq) (shown (record { page_id = q; header = d })) shut (shown p) h
     (λ t s. let same : ◌≡◌ {A = PagePointer} (record { page_id = q; header = d }) p = cc in rw same at (shows img seq q d e t))
-    (λ t s. let z : ◌≡◌ {A = ℕ} 0 1 = cc in absurd (omega arith))
+    (λ t s. cc)
 
 pub opened_says : (img : List ℕ) (count : ℕ) (f : FileRecord) (seq : ℕ) (p : PagePointer) → open_at img count f seq ≡ shown p → Shows img seq p
 unfolding open_at
 opened_says img count f seq p = go (path_of img count f seq).ends
   where
     go : (s : Sought) → opened_at img seq s ≡ shown p → Shows img seq p
-    go damaged h = let z : ◌≡◌ {A = ℕ} 0 1 = cc in absurd (omega arith)
+    go damaged h = cc
     go (at q) h = opened_read img seq q.page_id (read_at img q.page_id) p refl h
 
 -- ---- numbers that are a file's
