@@ -129,17 +129,17 @@ module _ (img : List ℕ) (count : ℕ) (f : FileRecord) where
 
     -- a page's bytes are there, and stand in front
     module _ (o : Opening) (n : ℕ) (run : List ℕ) (is : Some o ≡ opening seq (open_at img count f seq)) (en : n ≡ min (length out) o.left)
-        (er : run ≡ part_of (page_of img o.page) (32 + o.off) n) where
+        (er : run ≡ part_of (page_of img o.page) (32 + o.offset) n) where
       shown_as : (x : Opened) → open_at img count f seq ≡ x → Some o ≡ opening seq x
           → (n ≡ length run) × (turn (Some n) (run ++ drop n out) ≡ turn_by img seq out x)
       shown_as shut e is = cc
       shown_as (shown p) e is =
           let s = opened_says img count f seq p e in
-          let same : o ≡ record { page = p.page_id; off = seq - p.header.seq; left = p.header.seq + p.header.length - seq } = same_Some _ _ is in
+          let same : o ≡ record { page = p.page_id; offset = seq - p.header.seq; left = p.header.seq + p.header.length - seq } = same_Some _ _ is in
           let k : n ≡ here p seq (length out) = en ∙ ap (λ (y : Opening). min (length out) y.left) same in
           let taken : run ≡ bytes_here img p seq (length out) =
           er
-          ∙ ap (λ (y : Opening). part_of (page_of img y.page) (32 + y.off) n) same
+          ∙ ap (λ (y : Opening). part_of (page_of img y.page) (32 + y.offset) n) same
           ∙ rw k (part_of_in (page_of img p.page_id) (32 + (seq - p.header.seq)) (here p seq (length out)) (here_inside img seq (length out) p s)) in
           (k ∙ sym (ap length taken ∙ here_length img seq (length out) p s), rw (k, taken))
 
@@ -153,12 +153,6 @@ module _ (img : List ℕ) (count : ℕ) (f : FileRecord) where
   -- what is read so far, and what is left to read
   abbrev pub rest : ℕ → ℕ → ℕ → List ℕ → Bytes
   rest seq n done out = before (take done out) (bytes (seq + done) (n - done))
-
-  pub rest_first : (seq n : ℕ) (out : List ℕ) → bytes seq n ≡ rest seq n 0 out
-  rest_first seq n out =
-      let a : seq + 0 ≡ seq = omega arith in
-      let b : n - 0 ≡ n = omega arith in
-      rw (a, b) (sym (before_nil (bytes seq n)))
 
   pub rest_last : (seq n : ℕ) (out : List ℕ) → length out ≤ n → rest seq n n out ≡ some out
   rest_last seq n out h = rw (sub_self n, bytes_empty 0 (seq + n), append-nil (take n out), take_all n out h)

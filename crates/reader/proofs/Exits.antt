@@ -40,19 +40,11 @@ pub known_file : (image map : ℕ) (s : State) (busy : Bool) (file : ℕ) (d : D
 known_file image map s busy file d is e = (checks_pass image map s busy file (sym is ∙ e)).known
 
 module _ (w : World) (file : ℕ) (d : Done) (is : d ≡ checks (length w.image) (length w.map) w.state w.state.transaction file) where
-  pub locate_refused : (seq : ℕ) (why : Refusal) → d ≡ Err why → Err why ≡ locate w file seq
-  unfolding locate
-  locate_refused seq why e = rw (← is, e)
-
   pub locate_fine : (seq : ℕ) → d ≡ fine → locate_in w.image w.state.page_count (file_at w.table file) seq ≡ locate w file seq
   unfolding locate
   locate_fine seq e = rw (← is, e)
 
 module _ (w : World) (r : Reader) (d : Done) (is : d ≡ checks (length w.image) (length w.map) w.state w.state.transaction r.file) where
-  pub read_refused : (out : List ℕ) (why : Refusal) → d ≡ Err why → read_kept r out d ≡ read w r out
-  unfolding read
-  read_refused out why e = rw (← is, e)
-
   pub read_fine : (out : List ℕ) → d ≡ fine → read_in w.image w.state.page_count (file_at w.table r.file) r out ≡ read w r out
   unfolding read
   read_fine out e = rw (← is, e)
@@ -131,9 +123,9 @@ module _ (img : List ℕ) (count : ℕ) (f : FileRecord) (seq : ℕ) (x : Found)
     open_past k l = let m : h.seq + h.length ≤ seq = omega arith in rw (open_read, le-leb _ _ k, le-ltb _ _ m)
 
     -- it is one
-    pub open_holds_it : h.seq ≤ seq → seq - h.seq < h.length
-        → Some (record { page = x.page.page_id; off = seq - h.seq; left = h.length - (seq - h.seq) }) ≡ opening seq (open_at img count f seq)
-    open_holds_it k l =
+    pub open_held : h.seq ≤ seq → seq - h.seq < h.length
+        → Some (record { page = x.page.page_id; offset = seq - h.seq; left = h.length - (seq - h.seq) }) ≡ opening seq (open_at img count f seq)
+    open_held k l =
         let m : seq < h.seq + h.length = omega arith in
         let e : h.length - (seq - h.seq) ≡ h.seq + h.length - seq = omega arith in
         rw (open_read, open_holds x.page.page_id seq h k m, e)
@@ -160,18 +152,18 @@ shows img seq q h e t =
     }
 
 opened_read : (img : List ℕ) (seq q : ℕ) (x : Read) (p : PagePointer) → read_at img q ≡ x → opened_by q seq x ≡ shown p → Shows img seq p
-opened_read img seq q unreadable p e h = let z : ◌≡◌ {A = ℕ} 0 1 = cc in absurd (omega arith)
+opened_read img seq q unreadable p e h = cc
 opened_read img seq q (readable d) p e h =
     cond_by (holds d seq) (shown (record { page_id = q; header = d })) shut (shown p) h
     (λ t s. let same : ◌≡◌ {A = PagePointer} (record { page_id = q; header = d }) p = cc in rw same at (shows img seq q d e t))
-    (λ t s. let z : ◌≡◌ {A = ℕ} 0 1 = cc in absurd (omega arith))
+    (λ t s. cc)
 
 pub opened_says : (img : List ℕ) (count : ℕ) (f : FileRecord) (seq : ℕ) (p : PagePointer) → open_at img count f seq ≡ shown p → Shows img seq p
 unfolding open_at
 opened_says img count f seq p = go (path_of img count f seq).ends
   where
     go : (s : Sought) → opened_at img seq s ≡ shown p → Shows img seq p
-    go damaged h = let z : ◌≡◌ {A = ℕ} 0 1 = cc in absurd (omega arith)
+    go damaged h = cc
     go (at q) h = opened_read img seq q.page_id (read_at img q.page_id) p refl h
 
 -- ---- numbers that are a file's
@@ -182,10 +174,10 @@ behind_live f seq n low high fits = rw (le-ltb _ _ low, lt-leb _ _ high, le-ltb 
 
 -- ---- read
 
--- by the number behind the read's
-abbrev pub read_on : {A : Type 0} → Result ℕ Refusal → (Refusal → A) → A → A
-read_on (Err why) refuse go = refuse why
-read_on (Ok end) refuse go = go
+-- by whether the numbers are a file's
+abbrev on_end : {A : Type 0} → Result ℕ Refusal → (Refusal → A) → A → A
+on_end (Err why) refuse go = refuse why
+on_end (Ok end) refuse go = go
 
 module _ (img : List ℕ) (count : ℕ) (f : FileRecord) (r : Reader) (out : List ℕ) where
   pub read_none : length out ≡ 0 → read_kept r out fine ≡ read_in img count f r out
@@ -194,16 +186,17 @@ module _ (img : List ℕ) (count : ℕ) (f : FileRecord) (r : Reader) (out : Lis
 
   -- some bytes are asked for
   module _ (some : length out ≡ 0 → ⊥) where
-    abbrev go : AfterRead
-    go = cond (in_shape count f) (read_by r out (bytes_from img count f (length out) r.seq (length out))) (read_by r out none)
+    -- the number behind them is there
+    abbrev read_there : AfterRead
+    read_there = cond (in_shape count f) (read_by r out (bytes_from img count f (length out) r.seq (length out))) (read_by r out none)
 
-    read_some : read_on (behind f r.seq (length out)) (λ why. read_kept r out (Err why)) go ≡ read_in img count f r out
+    read_some : on_end (behind f r.seq (length out)) (λ why. read_kept r out (Err why)) read_there ≡ read_in img count f r out
     unfolding read_in behind
     read_some = rw (ne_eqb _ _ some) (by (ltb r.seq f.first_seq) (leb f.last_seq r.seq) (ltb f.last_seq (r.seq + length out)))
       where
         by : (a b c : Bool)
-            → read_on (cond a (Err Gone) (cond b (Err Eof) (cond c (Err Short) (Ok (r.seq + length out))))) (λ why. read_kept r out (Err why)) go
-            ≡ cond a (read_kept r out (Err Gone)) (cond b (read_kept r out (Err Eof)) (cond c (read_kept r out (Err Short)) go))
+            → on_end (cond a (Err Gone) (cond b (Err Eof) (cond c (Err Short) (Ok (r.seq + length out))))) (λ why. read_kept r out (Err why)) read_there
+            ≡ cond a (read_kept r out (Err Gone)) (cond b (read_kept r out (Err Eof)) (cond c (read_kept r out (Err Short)) read_there))
         by true b c = refl
         by false true c = refl
         by false false true = refl

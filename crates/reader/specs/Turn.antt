@@ -19,7 +19,7 @@ behind f seq n =
 abbrev pub opening : ℕ → Opened → Option Opening
 opening seq shut = None
 opening seq (shown p) =
-    Some (record { page = p.page_id; off = seq - p.header.seq; left = p.header.seq + p.header.length - seq })
+    Some (record { page = p.page_id; offset = seq - p.header.seq; left = p.header.seq + p.header.length - seq })
 
 -- one page's part in a read: how many bytes it gives, and the output then
 pub record Turn : Type 0 where

@@ -34,10 +34,10 @@ pub fn curr_seq(reader: Reader) -> u32
 pub fn is_empty(table: &Table, file: u8) -> Result<bool, Refusal>
     ensures { whether_numbers result ≡ whether_numbers (empty_says table.now file) }
 {
-    if 7 < file {
-        return Err(Refusal::BadFile);
+    match table.files.get(file as usize) {
+        Some(f) => Ok(f.is_empty()),
+        None => Err(Refusal::BadFile),
     }
-    Ok(table.files[file as usize].is_empty())
 }
 
 pub fn file_flags(table: &Table, file: u8) -> u8
@@ -47,6 +47,7 @@ pub fn file_flags(table: &Table, file: u8) -> u8
 }
 
 // The files that have one of the flags, by their ids.
+#[tactic(auto, unfolding(crate::specs::Ask::flags_at))]
 pub fn files_with_flag(table: &Table, flag: u8) -> [bool; 8]
     ensures { result ≡ with_flag table.now flag }
 {

@@ -26,8 +26,8 @@ pub struct Located {
     pub headers: u32,
 }
 
-#[tactic(auto, using(crate::proofs::Exits::known_file), unfolding(crate::specs::Locate::locate))]
 // The page of a number, unopened: Rust's get_file_page.
+#[tactic(auto, using(crate::proofs::Exits::known_file), unfolding(crate::specs::Locate::locate))]
 pub fn locate(
     image: &[u8],
     map: &[u8],
@@ -43,8 +43,9 @@ pub fn locate(
     pages::locate_in(image, state.page_count as usize, f, seq)
 }
 
+// Reads as many bytes as out has, and the reader moves on behind them. A refused read leaves the reader where it stood, and the
+// output as it was; a Damaged one leaves the output zero.
 #[tactic(auto, using(crate::proofs::Exits::known_file), unfolding(crate::specs::Read::read))]
-// Reads as many bytes as out has, and the reader moves on behind them.
 pub fn read(
     image: &[u8],
     map: &[u8],
@@ -55,14 +56,19 @@ pub fn read(
 ) -> Result<(), Refusal>
     ensures { read_told (after_read result reader.new out.new) ≡ read_told (read (before image.now map.now table.now state.now) reader.old out.old) }
 {
-    let file = reader.file;
-    state::checks::check(image.len(), map.len(), state, state.transaction, file)?;
-    let f = &table.files[file as usize];
+    state::checks::check(
+        image.len(),
+        map.len(),
+        state,
+        state.transaction,
+        reader.file,
+    )?;
+    let f = &table.files[reader.file as usize];
     reading::read_in(image, state.page_count as usize, f, reader, out)
 }
 
-#[tactic(auto, using(crate::proofs::Exits::known_file), unfolding(crate::specs::Skip::skip))]
 // Passes len numbers by, and gives where the reader then stands.
+#[tactic(auto, using(crate::proofs::Exits::known_file), unfolding(crate::specs::Skip::skip))]
 pub fn skip(
     image: &[u8],
     map: &[u8],
@@ -73,14 +79,19 @@ pub fn skip(
 ) -> Result<u32, Refusal>
     ensures { skipped_numbers result ≡ skipped_numbers (skip (before image.now map.now table.now state.now) reader len) }
 {
-    let file = reader.file;
-    state::checks::check(image.len(), map.len(), state, state.transaction, file)?;
-    let f = &table.files[file as usize];
+    state::checks::check(
+        image.len(),
+        map.len(),
+        state,
+        state.transaction,
+        reader.file,
+    )?;
+    let f = &table.files[reader.file as usize];
     pages::skip_in(image, state.page_count as usize, f, reader.seq, len)
 }
 
-#[tactic(auto, using(crate::proofs::Exits::seek_is))]
 // To an offset of the file: FileReader::seek.
+#[tactic(auto, using(crate::proofs::Exits::seek_is))]
 pub fn seek(
     image: &[u8],
     map: &[u8],

@@ -1,5 +1,6 @@
-// The page of a number: located, and opened.
-#![tactic(auto, unfolding(crate::specs::Turn::behind, crate::specs::Locate::locate_in, crate::specs::Read::open_at, crate::specs::Skip::landed, crate::specs::Skip::skip_in))]
+// The page of a number: located, and opened. The image and its count of pages travel as two parameters, as in chain: behind a
+// struct that held the reference each clause would read `p.entry.image.now`.
+#![tactic(auto, unfolding(crate::specs::Turn::behind, crate::specs::Locate::locate_in, crate::specs::Skip::landed, crate::specs::Skip::skip_in))]
 
 ghost use Rattle.std.specs.Prelude.{◌≡◌, ◌+◌, IfOk};
 ghost use Rattle.reader.specs.Locate.{locate_in};
@@ -12,10 +13,10 @@ use state::types::{FileRecord, Refusal};
 
 // An opened page, for a number that it holds: where the number's byte stands in the payload, and how many bytes there are from
 // it up to the end.
-#[derive(Clone, Copy, Debug, PartialEq, Eq)]
+#[derive(Clone, Copy)]
 pub struct Opening {
     pub page: u16,
-    pub off: u32,
+    pub offset: u32,
     pub left: u32,
 }
 
@@ -37,23 +38,23 @@ pub fn behind(f: &FileRecord, seq: u32, n: usize) -> Result<u32, Refusal>
     Ok(seq + (n as u32))
 }
 
-#[tactic(auto, using(crate::proofs::Exits::open_unread, crate::proofs::Exits::open_below, crate::proofs::Exits::open_past, crate::proofs::Exits::open_holds_it), unfolding(crate::specs::Read::open_at))]
 // The located page of a number, opened: its header is read from the image, and it holds the number.
+#[tactic(auto, using(crate::proofs::Exits::open_unread, crate::proofs::Exits::open_below, crate::proofs::Exits::open_past, crate::proofs::Exits::open_held), unfolding(crate::specs::Read::open_at))]
 pub fn open_at(image: &[u8], count: usize, f: &FileRecord, seq: u32) -> Option<Opening>
     ensures { result ≡ opening seq (open_at image.now count f.now seq) }
 {
     let found = chain::prev_seq(image, count, chain::last_of(f), seq)?;
     let page = found.page.page_id;
     let header = page::header_at(image, page as usize)?;
-    let off = seq.checked_sub(header.seq)?;
+    let offset = seq.checked_sub(header.seq)?;
     let length = u32::from(header.length);
-    if length <= off {
+    if length <= offset {
         return None;
     }
     Some(Opening {
         page,
-        off,
-        left: length - off,
+        offset,
+        left: length - offset,
     })
 }
 
@@ -64,23 +65,20 @@ pub fn locate_in(image: &[u8], count: usize, f: &FileRecord, seq: u32) -> Result
     if !state::values::in_shape(f, count) {
         return Err(Refusal::Damaged);
     }
-    match chain::prev_seq(image, count, chain::last_of(f), seq) {
-        Some(found) => Ok(Located {
-            page: found.page.page_id,
-            headers: found.count,
-        }),
-        None => Err(Refusal::Damaged),
-    }
+    let found = chain::prev_seq(image, count, chain::last_of(f), seq).ok_or(Refusal::Damaged)?;
+    Ok(Located {
+        page: found.page.page_id,
+        headers: found.count,
+    })
 }
 
 // A reader comes to seq: below last_seq it opens the page there.
 fn land(image: &[u8], count: usize, f: &FileRecord, seq: u32) -> Result<u32, Refusal>
     ensures { result ≡ landed image.now count f.now seq }
 {
-    if seq == f.last_seq {
-        return Ok(seq);
-    }
-    if state::values::in_shape(f, count) && open_at(image, count, f, seq).is_some() {
+    if seq == f.last_seq
+        || state::values::in_shape(f, count) && open_at(image, count, f, seq).is_some()
+    {
         return Ok(seq);
     }
     Err(Refusal::Damaged)

@@ -6,14 +6,14 @@ ghost use Rattle.reader.specs.Turn.{turn, turned, all_of};
 use crate::Reader;
 use state::types::{FileRecord, Refusal};
 
-#[tactic(auto, using(crate::proofs::Bytes::turn_shut, crate::proofs::Bytes::turn_fits, crate::proofs::Bytes::turn_shown))]
 // The bytes of one page go into the front of out: how many.
+#[tactic(auto, using(crate::proofs::Bytes::turn_shut, crate::proofs::Bytes::turn_fits, crate::proofs::Bytes::turn_shown))]
 fn read_page(image: &[u8], count: usize, f: &FileRecord, seq: u32, out: &mut [u8]) -> Option<usize>
     ensures { turn result out.new ≡ turned image.now count f.now seq out.old }
 {
     let opened = crate::pages::open_at(image, count, f, seq)?;
     let n = out.len().min(opened.left as usize);
-    let bytes = page::payload_at(image, opened.page as usize, opened.off as usize, n);
+    let bytes = page::payload_at(image, opened.page as usize, opened.offset as usize, n);
     out[..n].copy_from_slice(bytes);
     Some(n)
 }
@@ -30,8 +30,8 @@ fn read_bytes(image: &[u8], count: usize, f: &FileRecord, seq: u32, out: &mut [u
     Some(())
 }
 
-#[tactic(auto, using(crate::proofs::Exits::read_none, crate::proofs::Exits::read_refused_in, crate::proofs::Exits::read_shaped, crate::proofs::Exits::read_shapeless))]
 // The output of a Damaged read is all zero.
+#[tactic(auto, using(crate::proofs::Exits::read_none, crate::proofs::Exits::read_refused_in, crate::proofs::Bytes::read_whole, crate::proofs::Bytes::read_zero, crate::proofs::Bytes::read_lost))]
 pub fn read_in(
     image: &[u8],
     count: usize,
