@@ -1,8 +1,6 @@
 -- `writer::finish::finish_page` meets its contract.
 -- Assumes nothing.
-use mathlib.Core.Path.{ap, ◌∙◌}
-use Rattle.state.specs.declared.types.State.{State}
-use Rattle.state.specs.Values.{no_writer, with_writer}
+use Rattle.state.specs.Values.{with_writer}
 use Rattle.state.specs.World.{before}
 use Rattle.writer.proofs.Exits.{finished_is}
 use Rattle.writer.proofs.finish.finish_page.Goals as goal
