@@ -1,20 +1,19 @@
 -- The code's next page, by what its parts leave. Assumes nothing.
 use Rattle.std.specs.Prelude.{Option, Some, None}
 use Prim.Native.Nat.{ℕ, ◌<◌}
-use mathlib.Core.Path.{◌≡◌, refl, sym, ap, ◌∙◌}
-use mathlib.Core.Bool.{Bool, true, false, cond}
+use mathlib.Core.Path.{◌≡◌, sym, ap, ◌∙◌}
 use mathlib.Core.List.{List}
 use native.Mathlib.Omega.{arith}
-use borrow.Author.Tests.{eq-eqb, ne_eqb}
+use borrow.Author.Tests.{ne_eqb}
 use lib.ListN.{take}
 use Rattle.page.specs.declared.DataHeader.{DataHeader}
 use Rattle.page.specs.Store.{ran, data_stores}
 use Rattle.map.specs.Map.{alloc_of, used_by, beyond, allocated, leaves as gives}
-use Rattle.map.proofs.Laws.{allocated_answer, allocated_left, alloc_found, beyond_inside}
+use Rattle.map.proofs.Laws.{allocated_answer, allocated_left, alloc_found}
 use Rattle.state.specs.declared.types.Writer.{Writer}
 use Rattle.state.specs.declared.types.State.{State}
 use Rattle.state.specs.Values.{with_cursor, with_writer}
-use Rattle.writer.specs.Staging.{is_staged, staged_links, staged_header, flush_stores, flushed, on_page, space}
+use Rattle.writer.specs.Staging.{staged_links, staged_header, flush_stores, on_page, space}
 use Rattle.writer.specs.Write.{Writing, staged, next_page, ready}
 use Rattle.writer.specs.Inner.{stores_of, unstaged, begins, wrote, writes}
 use Rattle.writer.proofs.Sounds.{flushes, next_is}
@@ -30,10 +29,6 @@ alloc_told m m' count cursor a e =
 pub alloc_small : (m m' : List ℕ) (count cursor i : ℕ) (a : Option ℕ) → gives a m' ≡ allocated m count cursor → a ≡ Some i → cursor < count → i < count
 alloc_small m m' count cursor i a e p h =
     (alloc_found m count cursor (omega arith) i ((alloc_told m m' count cursor a e).0 ∙ p)).inside
-
--- one beyond it fits too
-pub beyond_small : (count i r : ℕ) → r ≡ beyond count i → 0 < count → r < count
-beyond_small count i r e h = rw e (beyond_inside count i h)
 
 -- ---- a flush
 
@@ -66,10 +61,6 @@ module _ (img m : List ℕ) (s : State) (img' m' : List ℕ) (v : Writer) (a : O
       sym (from ∙ rw (e, ev, em, ei))
 
 -- ---- whether one is needed
-
-pub ready_next : (count : ℕ) (x : Writing) → space x.writer ≡ 0 → ready count x ≡ next_page count x
-unfolding ready
-ready_next count x e = rw (eq-eqb (space x.writer) 0 e)
 
 pub ready_here : (count : ℕ) (x : Writing) → (space x.writer ≡ 0 → ⊥) → ready count x ≡ x
 unfolding ready

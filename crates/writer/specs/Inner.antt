@@ -64,6 +64,12 @@ may_write m s len =
     (cond (too_few m s.page_count (pages_for (space s.writer) len)) (Err NoRoom)
     fine))
 
+-- ---- what finishing goes by: the writer's file is in the table, and its end is a number
+
+pub record Ends (x : Writer) : Type 0 where
+  pub file : x.file ≤ 7
+  pub end : x.seq + x.length < 4294967296
+
 -- ---- a discard's walk
 
 abbrev pub unbroken : Back → Bool

@@ -1,14 +1,14 @@
 // Finishing a writer (Rust's commit), and discarding it.
 #![tactic(auto, unfolding(state::specs::Values::with_file, state::specs::Values::with_writer, crate::specs::Finish::grown, crate::specs::Finish::finish, crate::specs::Finish::finished, crate::specs::Finish::discard))]
 
-ghost use Rattle.std.specs.Prelude.{◌≡◌, true, ◌+◌, ◌≤◌, ◌<◌};
+ghost use Rattle.std.specs.Prelude.{◌≡◌, true};
 ghost use Rattle.chain.specs.Steps.{read_at};
 ghost use Rattle.state.specs.Refusals.{fine};
 ghost use Rattle.state.specs.Values.{file_at, with_file};
 ghost use Rattle.state.specs.World.{before, after, ended, yields, promised};
 ghost use Rattle.writer.specs.Staging.{staged_header};
 ghost use Rattle.writer.specs.Finish.{grown, finished, finish, back_from, discard};
-ghost use Rattle.writer.specs.Inner.{unbroken, freed_by};
+ghost use Rattle.writer.specs.Inner.{Ends, unbroken, freed_by};
 
 use chain::{PagePointer, Step};
 use page::DataHeader;
@@ -18,7 +18,7 @@ use state::types::{FileRecord, Refusal, State, Table, Writer};
 
 // The file ends with the staged page.
 fn grow(table: &mut Table, w: &Writer, header: DataHeader)
-    requires { (w.now.file ≤ 7) × (w.now.seq + w.now.length < 4294967296) × (header ≡ staged_header w.now) }
+    requires { Ends w.now × (header ≡ staged_header w.now) }
     ensures { table.new ≡ with_file table.old w.now.file (grown (file_at table.old w.now.file) w.now) }
 {
     let file = usize::from(w.file);
@@ -32,9 +32,8 @@ fn grow(table: &mut Table, w: &Writer, header: DataHeader)
 }
 
 // The staged page is stored, the copied one held, and a transaction opened.
-#[tactic(auto, using(crate::proofs::Exits::finished_is), unfolding(state::specs::Values::with_writer))]
 fn finish_page(image: &mut [u8], map: &mut [u8], table: &mut Table, state: &mut State)
-    requires { (state.old.writer.file ≤ 7) × (state.old.writer.seq + state.old.writer.length < 4294967296) }
+    requires { Ends state.old.writer }
     ensures { after fine image.new map.new table.new state.new ≡ ended (before image.old map.old table.old state.old) (finished (before image.old map.old table.old state.old) state.old.writer) }
 {
     let w = &state.writer;
@@ -42,11 +41,11 @@ fn finish_page(image: &mut [u8], map: &mut [u8], table: &mut Table, state: &mut 
     crate::staging::flush_header(image, w, header);
     crate::staging::mark_page(map, w.copied, map::HELD);
     grow(table, w, header);
-    *state = state::values::open_transaction(*state);
+    state.transaction = true;
+    state.search = state::values::no_search();
     state.writer = state::values::no_writer();
 }
 
-#[tactic(auto, using(state::proofs::Laws::checks_pass, state::proofs::Laws::writer_says), unfolding(crate::specs::Finish::finish, state::specs::Values::with_writer))]
 pub fn finish(
     image: &mut [u8],
     map: &mut [u8],

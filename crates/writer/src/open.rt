@@ -59,8 +59,7 @@ fn copy_writer(image: &[u8], file: u8, f: &FileRecord, q: &PagePointer, p: u16) 
         length: h.length,
         ..writer_behind(file, h.seq, q)
     };
-    let payload =
-        page::payload_at(image, usize::from(f.last_page), 0, usize::from(h.length));
+    let payload = page::payload_at(image, usize::from(f.last_page), 0, usize::from(h.length));
     runs::place(&mut w.staged, 0, payload);
     w
 }
@@ -77,7 +76,6 @@ fn page_before(image: &[u8], count: usize, f: &FileRecord) -> Result<PagePointer
 }
 
 // The copy's page is allocated at once; nothing is stored yet. It makes no use of the table, so that it is the same with any.
-#[tactic(auto, using(crate::proofs::Pages::alloc_small, crate::proofs::Opens::copied_page, crate::proofs::Opens::copied_none), unfolding(state::specs::Values::with_cursor, state::specs::Values::with_writer))]
 fn copied_to(
     image: &[u8],
     map: &mut [u8],

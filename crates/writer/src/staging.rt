@@ -43,7 +43,11 @@ pub fn too_few(map: &[u8], count: u16, k: usize) -> bool
 fn kept_boundary(boundary: u16, length: u16) -> u16
     ensures { result ≡ named_below boundary length }
 {
-    if boundary < length { boundary } else { state::values::NO_BOUNDARY }
+    if boundary < length {
+        boundary
+    } else {
+        state::values::NO_BOUNDARY
+    }
 }
 
 // The page before the staged one.

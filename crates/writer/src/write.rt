@@ -56,7 +56,6 @@ fn flush(image: &mut [u8], w: &mut Writer)
 }
 
 // Then a page is allocated.
-#[tactic(auto, using(crate::proofs::Pages::alloc_small, crate::proofs::Pages::next_page_lem, crate::proofs::Pages::next_full), unfolding(state::specs::Values::with_cursor, state::specs::Values::with_writer))]
 fn next_page(image: &mut [u8], map: &mut [u8], state: &mut State)
     requires { Able state.old.page_count state.old.cursor state.old.writer }
     ensures { writes image.new map.new state.new ≡ wrote image.old state.old (next_page state.old.page_count (begins map.old state.old)) }
@@ -156,12 +155,7 @@ fn ended(w: &mut Writer)
     }
 }
 
-pub fn record_end(
-    image: &[u8],
-    map: &[u8],
-    table: &Table,
-    state: &mut State,
-) -> Result<(), Refusal>
+pub fn record_end(image: &[u8], map: &[u8], table: &Table, state: &mut State) -> Result<(), Refusal>
     ensures { yields result image.now map.now table.now state.new ≡ promised record_end (before image.now map.now table.now state.old) }
 {
     state::checks::check(image.len(), map.len(), state, false, 0)?;

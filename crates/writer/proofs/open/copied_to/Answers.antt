@@ -1,6 +1,6 @@
 -- `writer::open::copied_to` meets its contract: a page is found, or none.
 -- Assumes nothing.
-use mathlib.Core.Path.{sym, ap, ◌∙◌}
+use mathlib.Core.Path.{sym, ap}
 use Rattle.std.specs.Prelude.{Some, None}
 use native.Mathlib.Omega.{arith}
 use Rattle.state.specs.Values.{with_cursor, with_writer}

@@ -1,6 +1,5 @@
 -- `writer::write::next_page` meets its contract: the staged page is stored, then a page allocated.
 -- Assumes nothing.
-use mathlib.Core.Path.{◌∙◌}
 use native.Mathlib.Omega.{arith}
 use Rattle.state.specs.Values.{with_cursor, with_writer}
 use Rattle.writer.proofs.Pages.{alloc_small, next_page_lem, next_full}
