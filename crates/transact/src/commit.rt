@@ -82,7 +82,7 @@ fn commit_batch(
 }
 
 // Commits the dirty files. With none dirty nothing is stored and the log is not looked at.
-#[tactic(auto, unfolding(state::specs::Values::closed, crate::specs::Commit::commit, crate::specs::Commit::commit_batch))]
+#[tactic(auto, unfolding(state::specs::Values::closed, crate::specs::Commit::commit, crate::specs::Commit::commit_batch), using(state::proofs::Laws::checks_pass))]
 pub fn commit(
     image: &mut [u8],
     map: &mut [u8],

@@ -1,13 +1,13 @@
 -- `transact::truncate::truncate` meets its contract: where the file is not empty, whether its walk ends says which exit it is.
 -- Assumes nothing.
-use Rattle.std.specs.Prelude.{Some, None, Ok, Err}
+use Rattle.std.specs.Prelude.{Some, None, Err}
 use mathlib.Core.Path.{◌≡◌, sym, ◌∙◌, ap}
 use borrow.Author.Tests.{eqb-false}
 use Rattle.std.specs.Result.{result_ok}
 use Rattle.std.proofs.Common.{rules}
 use Rattle.state.specs.declared.types.Refusal.TheVariants.{Damaged}
 use Rattle.state.specs.Refusals.{numbers, Done}
-use Rattle.state.specs.World.{World, Outcome, before, ended, in_numbers, yields}
+use Rattle.state.specs.World.{Outcome, before, ended, in_numbers, yields}
 use Rattle.transact.proofs.Steps.{edge_says, edge_not}
 use Rattle.transact.proofs.Exits.{truncate_damaged, truncate_held}
 use Rattle.transact.proofs.truncate.truncate.Goals as goal
