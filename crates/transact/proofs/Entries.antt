@@ -63,5 +63,6 @@ module _ {X : Type 0} (mark : X → X) (once : (x : X) → mark (mark x) ≡ mar
         where
           x : X
           x = get_or l i d
+
           y : X
           y = get_or l j d

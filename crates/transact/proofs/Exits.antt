@@ -1,17 +1,16 @@
 -- One law for each exit of a call's definition. Assumes nothing.
-use Rattle.std.specs.Prelude.{Some, None, Ok, Err}
-use mathlib.Core.Path.{◌≡◌, refl, sym, ◌∙◌, ap}
+use Rattle.std.specs.Prelude.{Some, None, Err}
+use mathlib.Core.Path.{◌≡◌, refl, ◌∙◌, ap}
 use mathlib.Core.Bool.{Bool, true, false, cond, ◌&&◌}
 use mathlib.Core.List.{List, []}
-use Prim.Native.Nat.{ℕ, ◌+◌, ◌≤◌, ◌<◌}
+use Prim.Native.Nat.{ℕ}
 use native.Mathlib.Omega.{arith}
-use borrow.Author.Tests.{lt-ltb, le-ltb, eq-eqb, ne_eqb}
-use lib.ListN.{length, set}
+use borrow.Author.Tests.{eq-eqb, ne_eqb}
+use lib.ListN.{length}
 use Rattle.seq.specs.Ids.{none}
-use Rattle.page.specs.Store.{Store, ran}
-use Rattle.map.specs.Map.{alloc_of, released, used, free, beyond}
+use Rattle.map.specs.Map.{alloc_of}
 use Rattle.metalog.specs.Log.{log_end, rest_erased, fits}
-use Rattle.metalog.specs.Batch.{batch_stores, new_meta_stores}
+use Rattle.metalog.specs.Batch.{batch_stores}
 use Rattle.chain.specs.Files.{last_of}
 use Rattle.chain.specs.Steps.{read_at, Sought, damaged, at, walk}
 use Rattle.chain.specs.Seek.{found_by}
@@ -19,15 +18,14 @@ use Rattle.state.specs.declared.types.FileRecord.{FileRecord}
 use Rattle.state.specs.declared.types.Table.{Table}
 use Rattle.state.specs.declared.types.State.{State}
 use Rattle.state.specs.declared.types.Refusal.{Refusal}
-use Rattle.state.specs.declared.types.Refusal.TheVariants.{BadFile, Damaged, NoRoom, SeqEnd}
-use Rattle.state.specs.Values.{file_at, with_flags, in_shape, opened, closed, with_meta, with_cursor}
-use Rattle.state.specs.Refusals.{numbers, on_done, Done, fine}
+use Rattle.state.specs.declared.types.Refusal.TheVariants.{Damaged, NoRoom, SeqEnd}
+use Rattle.state.specs.Values.{file_at, in_shape}
+use Rattle.state.specs.Refusals.{Done, fine}
 use Rattle.state.specs.Checks.{checks}
-use Rattle.state.specs.World.{World, Outcome, ended, after_call, kept, refuse, after, yields, promised}
+use Rattle.state.specs.World.{World, Outcome, after_call, refuse, after, yields, promised}
 use Rattle.state.proofs.Numbers.{promise_same}
-use Rattle.transact.specs.Truncate.{emptied, new_first, cut, unreached, held_all, changed_file, truncated_by, truncate_in, truncate}
-use Rattle.transact.specs.Rename.{swapped, changed_table, rename, flags}
-use Rattle.transact.specs.Commit.{dirty_files, live_files, committed, moved_to, moved, appended_at, commit_batch, commit}
+use Rattle.transact.specs.Truncate.{new_first, cut, unreached, held_all, changed_file, truncated_by, truncate_in, truncate}
+use Rattle.transact.specs.Commit.{dirty_files, committed, moved_to, moved, appended_at, commit_batch, commit}
 use Rattle.transact.specs.Walks.{follows}
 
 -- ---- checks 1 to 4
@@ -35,34 +33,11 @@ use Rattle.transact.specs.Walks.{follows}
 abbrev pub Checked : World → ℕ → Done → Type 0
 Checked w i d = checks (length w.image) (length w.map) w.state w.state.writer.active i ≡ d
 
--- ---- rename
-
-module _ (w : World) (i j : ℕ) where
-  pub rename_refused : (why : Refusal) → Checked w i (Err why) → rename w i j ≡ refuse w why
-  unfolding rename
-  rename_refused why e = rw e
-
-  pub rename_bad : Checked w i fine → 7 < j → rename w i j ≡ refuse w BadFile
-  unfolding rename
-  rename_bad e h = rw (e, lt-ltb 7 j h)
-
 -- ---- truncate
 
 module _ (w : World) (i bytes : ℕ) where
   abbrev file : FileRecord
   file = file_at w.table i
-
-  pub truncate_refused : (why : Refusal) → Checked w i (Err why) → truncate w i bytes ≡ refuse w why
-  unfolding truncate
-  truncate_refused why e = rw e
-
-  pub truncate_none : Checked w i fine → bytes ≡ 0 → truncate w i bytes ≡ kept w fine
-  unfolding truncate
-  truncate_none e h = rw (e, eq-eqb bytes 0 h)
-
-  pub truncate_empty : Checked w i fine → (bytes ≡ 0 → ⊥) → file.last_page ≡ none → truncate w i bytes ≡ changed_file w i w.map emptied
-  unfolding truncate truncate_in
-  truncate_empty e h k = rw (e, ne_eqb bytes 0 h, eq-eqb file.last_page none k)
 
   abbrev ends : Sought
   ends = (walk w.state.page_count (read_at w.image) file.first_seq (last_of file)).ends

@@ -33,6 +33,7 @@ fn live_marks(table: &Table) -> [bool; 8]
 }
 
 // How many files are dirty.
+#[tactic(auto, using(metalog::proofs::Runs::length_chosen))]
 pub fn count_dirty(table: &Table) -> usize
     ensures { result ≡ length (dirty_files table.now) }
 {

@@ -1,6 +1,4 @@
 // Commit: one batch of the dirty files, on the metadata page or on a new one.
-#![tactic(auto, unfolding(state::specs::Values::closed, state::specs::Values::with_meta, state::specs::Values::with_cursor, crate::specs::Commit::moved, crate::specs::Commit::commit, crate::specs::Commit::commit_batch))]
-
 ghost use Rattle.std.specs.Prelude.{◌≡◌, ◌≤◌, set};
 ghost use Rattle.map.specs.Map.{used, free, released};
 ghost use Rattle.metalog.specs.Log.{log_end};
@@ -22,6 +20,7 @@ fn move_map(map: &mut [u8], page: usize, old: usize)
 }
 
 // The state after a move: the transaction ends.
+#[tactic(auto, unfolding(state::specs::Values::closed, state::specs::Values::with_meta, state::specs::Values::with_cursor))]
 fn move_state(state: &mut State, page: u16, seq: u32, cursor: u16)
     ensures { state.new ≡ closed (with_cursor (with_meta state.old page seq) cursor) }
 {
@@ -32,6 +31,7 @@ fn move_state(state: &mut State, page: u16, seq: u32, cursor: u16)
 }
 
 // A commit whose batch has no place on the metadata page.
+#[tactic(auto, unfolding(crate::specs::Commit::moved))]
 fn commit_moved(
     image: &mut [u8],
     map: &mut [u8],
@@ -43,20 +43,21 @@ fn commit_moved(
         ≡ after_call moved (before image.old map.old table.now state.old) }
 {
     let seq = state.meta_seq.checked_add(1).ok_or(Refusal::SeqEnd)?;
-    let count = state.page_count as usize;
-    let page = map::find_free(map, count, state.cursor as usize).ok_or(Refusal::NoRoom)?;
+    let count = usize::from(state.page_count);
+    let page = map::find_free(map, count, usize::from(state.cursor)).ok_or(Refusal::NoRoom)?;
     let header = MetaHeader {
-        page_count: state.page_count as u32,
+        page_count: u32::from(state.page_count),
         seq,
     };
     batch::store_live(image, table, page, header);
-    move_map(map, page, state.meta_page as usize);
+    move_map(map, page, usize::from(state.meta_page));
     let cursor = map::beyond_page(page, count);
     move_state(state, page as u16, seq, cursor as u16);
     Ok(())
 }
 
 // A commit of a batch: on the metadata page where it fits and the rest is all 0xFF.
+#[tactic(auto, unfolding(state::specs::Values::closed))]
 fn commit_batch(
     image: &mut [u8],
     map: &mut [u8],
@@ -68,7 +69,7 @@ fn commit_batch(
         ≡ after_call (λ w. appended_at w (dirty_files w.table) (log_end w.image w.state.meta_page))
         (before image.old map.old table.now state.old) }
 {
-    let meta = state.meta_page as usize;
+    let meta = usize::from(state.meta_page);
     let end = metalog::log_end(image, meta).ok_or(Refusal::Damaged)?;
     let count = batch::count_dirty(table);
     if metalog::fits(end, count) && metalog::rest_erased(image, meta, end) {
@@ -81,6 +82,7 @@ fn commit_batch(
 }
 
 // Commits the dirty files. With none dirty nothing is stored and the log is not looked at.
+#[tactic(auto, unfolding(state::specs::Values::closed, crate::specs::Commit::commit, crate::specs::Commit::commit_batch), using(state::proofs::Laws::checks_pass))]
 pub fn commit(
     image: &mut [u8],
     map: &mut [u8],

@@ -1,6 +1,4 @@
 // What calls make of a file's record.
-#![tactic(auto, unfolding(crate::specs::Truncate::emptied, crate::specs::Truncate::cut, crate::specs::Truncate::advanced, state::specs::Values::empty_record, state::specs::Values::with_file))]
-
 ghost use Rattle.std.specs.Prelude.{◌≡◌, ◌<◌};
 ghost use Rattle.state.specs.Values.{with_file, opened};
 ghost use Rattle.transact.specs.Truncate.{new_first, emptied, cut};
@@ -16,6 +14,7 @@ pub fn new_first(f: &FileRecord, bytes: usize) -> u32
 }
 
 // The record of a file of which nothing remains, dirty.
+#[tactic(auto, unfolding(crate::specs::Truncate::emptied, state::specs::Values::empty_record))]
 pub fn emptied() -> FileRecord
     ensures { result ≡ emptied }
 {
@@ -26,6 +25,7 @@ pub fn emptied() -> FileRecord
 }
 
 // The record with that first_seq, dirty; where nothing remains it is empty.
+#[tactic(auto, unfolding(crate::specs::Truncate::cut, crate::specs::Truncate::advanced))]
 pub fn cut(f: &FileRecord, first: u32) -> FileRecord
     ensures { result ≡ cut f.now first }
 {
@@ -40,6 +40,7 @@ pub fn cut(f: &FileRecord, first: u32) -> FileRecord
 }
 
 // A change of one file, which opens a transaction.
+#[tactic(auto, unfolding(state::specs::Values::with_file))]
 pub fn change(table: &mut Table, state: &mut State, i: usize, f: FileRecord)
     requires { i < 8 }
     ensures { (table.new ≡ with_file table.old i f) × (state.new ≡ opened state.old) }

@@ -1,6 +1,4 @@
 // Rename: two files are swapped.
-#![tactic(auto, unfolding(crate::specs::Rename::rename), using(state::proofs::Laws::checks_pass))]
-
 ghost use Rattle.std.specs.Prelude.{◌≡◌, ◌<◌};
 ghost use Rattle.state.specs.World.{before, yields, promised};
 ghost use Rattle.transact.specs.Rename.{swapped, rename};
@@ -18,6 +16,7 @@ fn swap(table: &mut Table, i: usize, j: usize)
 }
 
 // Swaps two files, also one with itself, and marks both dirty.
+#[tactic(auto, unfolding(crate::specs::Rename::rename), using(state::proofs::Laws::checks_pass))]
 pub fn rename(
     image: &[u8],
     map: &[u8],
@@ -33,7 +32,7 @@ pub fn rename(
     if 7 < to {
         return Err(Refusal::BadFile);
     }
-    swap(table, from as usize, to as usize);
+    swap(table, usize::from(from), usize::from(to));
     *state = state::values::open_transaction(*state);
     Ok(())
 }

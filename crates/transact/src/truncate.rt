@@ -1,6 +1,4 @@
 // Truncate: first_seq advances, and the pages that are not reached any more are held.
-#![tactic(auto, unfolding(crate::specs::Truncate::truncate, crate::specs::Truncate::truncate_in), using(state::proofs::Laws::checks_pass, crate::proofs::Steps::edge_says, crate::proofs::Steps::edge_not, crate::proofs::Exits::truncate_damaged, crate::proofs::Exits::truncate_held))]
-
 ghost use Rattle.std.specs.Prelude.{◌≡◌};
 ghost use Rattle.state.specs.World.{before, yields, promised};
 ghost use Rattle.transact.specs.Truncate.{truncate};
@@ -9,6 +7,7 @@ use crate::{files, walk};
 use state::types::{Refusal, State, Table};
 
 // Advances first_seq by the smaller of bytes and length. The whole walk is checked before anything changes.
+#[tactic(auto, unfolding(crate::specs::Truncate::truncate, crate::specs::Truncate::truncate_in), using(state::proofs::Laws::checks_pass))]
 pub fn truncate(
     image: &[u8],
     map: &mut [u8],
@@ -24,13 +23,13 @@ pub fn truncate(
     if bytes == 0 {
         return Ok(());
     }
-    let i = file as usize;
+    let i = usize::from(file);
     let f = &table.files[i];
     if f.is_empty() {
         files::change(table, state, i, files::emptied());
         return Ok(());
     }
-    let count = state.page_count as usize;
+    let count = usize::from(state.page_count);
     let first = files::new_first(f, bytes);
     let edge = walk::edge_of(image, count, f, first).ok_or(Refusal::Damaged)?;
     walk::hold_unreached(image, map, count, f, first, edge);

@@ -8,6 +8,5 @@ use Rattle.transact.proofs.commit.commit_moved.Goals as goal
 
 pub overflow_cast-page : goal.overflow_cast-page
 overflow_cast-page c =
-    let a = c.args in
-    let k = (alloc_found a.map.now a.state.now.page_count a.state.now.cursor c.requires _ (sym c.find_free.ensures ∙ c.ok_or-2.ensures.ok_part ∙ ap result_ok c.in_ok-page.was)).inside in
-    omega (arith, k)
+    let k = (alloc_found c.args.map.now _ _ (omega (arith, c.from.ensures, c.from-count.ensures)) _ (sym c.find_free.ensures ∙ c.ok_or-2.ensures.ok_part ∙ ap result_ok c.in_ok-page.was)).inside in
+    omega (arith, k, c.from-count.ensures)

@@ -1,8 +1,8 @@
 -- `transact::walk::hold_back` meets its contract: what is held in the end, of the pages after the one at hand, is what the whole holds.
 -- Assumes nothing.
-use mathlib.Core.Path.{◌≡◌, sym, ◌∙◌}
+use mathlib.Core.Path.{sym, ◌∙◌}
 use native.Mathlib.Omega.{arith}
-use Rattle.transact.proofs.Steps.{held_on, held_ended}
+use Rattle.transact.proofs.Steps.{held_on}
 use Rattle.transact.proofs.walk.hold_back.Goals as goal
 
 pub loop-next-smaller : goal.loop-next-smaller
@@ -13,8 +13,3 @@ loop-next-preserved c =
     let o = c.loop-next in
     let w = held_on _ _ _ _ _ o.invariant.1 _ _ _ (sym c.in-Reaches.is ∙ c.back.ensures) c.hold_other.ensures in
     (omega (arith, c.hold_other.auto.map, o.invariant.0), w.1, w.2 ∙ o.invariant.2)
-
-pub returns : goal.returns
-returns c =
-    let o = c.loop-next in
-    held_ended _ _ _ _ _ o.invariant.1 _ _ c.back.ensures (λ q e. c.in_default.not-Reaches q e) ∙ o.invariant.2
