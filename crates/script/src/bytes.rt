@@ -7,7 +7,7 @@ ghost use Rattle.script.specs.Bytes.{more, zero_in_front, number_of, hex_value, 
 fn more(value: u32, digit: u8) -> Option<u32>
     ensures { result ≡ more value digit }
 {
-    if digit < b'0' || b'9' < digit {
+    if !digit.is_ascii_digit() {
         return None;
     }
     u32::try_from(u64::from(value) * 10 + u64::from(digit - b'0')).ok()
@@ -33,6 +33,7 @@ pub fn number_of(word: &[u8]) -> Option<u32>
     Some(value)
 }
 
+// The kit's `hex` reads digits in upper case too, which are none of the protocol.
 fn hex_value(d: u8) -> Option<u8>
     ensures { result ≡ hex_value d }
 {
