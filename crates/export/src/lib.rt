@@ -1,5 +1,5 @@
 // All calls for C and Rust: image and map are lent, table and state go in and come back by value; a search changes the state in place.
-#![tactic(auto)]
+#![tactic(auto, using(crate::proofs::Told::replied_is, crate::proofs::Told::read_is, crate::proofs::Told::sought_is))]
 
 ghost use Rattle.std.specs.Prelude.{◌≡◌};
 ghost use Rattle.state.specs.Values.{unmounted, empty_table};

@@ -1,7 +1,0 @@
--- `export::mv_flags` meets its contract: by what the call ensures.
--- Assumes nothing.
-use Rattle.export.proofs.Told.{replied_is}
-use Rattle.export.proofs.mv_flags.Goals as goal
-
-pub returns : goal.returns
-returns c = replied_is _ c.changed.result _ _ _ c.reply_of.ensures c.changed.ensures
