@@ -1,6 +1,6 @@
 -- What the inner functions take and leave, in the words of the calls' definitions. Assumes nothing: these are definitions.
 use Rattle.state.specs.Refusals.{Done, fine}
-use Rattle.std.specs.Prelude.{ℕ, ◌+◌, ◌*◌, ◌≤◌, ◌<◌, Bool, true, false, cond, not, List, [], ltb, length, take, replicate, Result, Ok, Err}
+use Rattle.std.specs.Prelude.{◌≡◌, ℕ, ◌+◌, ◌*◌, ◌≤◌, ◌<◌, Bool, true, false, cond, not, List, [], ltb, length, take, replicate, Result, Ok, Err}
 use Rattle.seq.specs.Ids.{none}
 use Rattle.seq.specs.Seq.{limit}
 use Rattle.page.specs.Store.{Store, ran}
@@ -12,6 +12,8 @@ use Rattle.state.specs.declared.types.Writer.{Writer}
 use Rattle.state.specs.declared.types.FileRecord.{FileRecord}
 use Rattle.state.specs.Values.{with_cursor, with_writer}
 use Rattle.state.specs.declared.types.State.{State}
+use Rattle.state.specs.declared.types.Table.{Table}
+use Rattle.state.specs.World.{World, Outcome, before, after, after_call}
 use Rattle.state.specs.declared.types.Refusal.TheVariants.{Damaged, NoRoom, SeqEnd, NoSearch}
 use Rattle.writer.specs.Staging.{is_staged, flush_stores, flushed, space, pages_for, too_few}
 use Rattle.writer.specs.Write.{Writing, write_from}
@@ -97,6 +99,10 @@ abbrev pub written : List ℕ → List ℕ → State → List ℕ → Wrote
 written img m s l = wrote img s (write_from s.page_count (length l) l (begins m s))
 
 -- ---- what opening goes by
+
+-- a call answers and leaves what its definition gives, with any table: it makes no use of it
+abbrev pub Leaves : (World → Outcome Done) → List ℕ → List ℕ → State → Done → List ℕ → State → Type 0
+Leaves call img m s a m' s' = (t : Table) → after a img m' t s' ≡ after_call call (before img m t s)
 
 -- the image has the state's pages
 pub record Sized (img : List ℕ) (s : State) : Type 0 where

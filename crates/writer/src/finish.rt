@@ -83,7 +83,8 @@ fn is_unbroken(image: &[u8], count: usize, p: &PagePointer, n: u32) -> bool
     true
 }
 
-// Frees them, once it is known that they are there: a discard that is refused changes nothing.
+// Frees them, once it is known that they are there: a discard that is refused changes nothing. A walk shared with the function
+// above would call a closure on each page, and its contract would be longer than both loops.
 #[tactic(auto, using(crate::proofs::Backs::unbroken_first, crate::proofs::Backs::unbroken_more, crate::proofs::Backs::unbroken_stuck, crate::proofs::Backs::freed_none, crate::proofs::Backs::freed_start, crate::proofs::Backs::freed_more, crate::proofs::Backs::freed_end))]
 fn free_back(image: &[u8], map: &mut [u8], count: usize, p: &PagePointer, n: u32)
     requires { unbroken (back_from count (read_at image.now) n p.now) ≡ true }

@@ -5,10 +5,9 @@ ghost use Rattle.std.specs.Prelude.{◌≡◌, ◌+◌, ◌*◌, ◌≤◌, leng
 ghost use Rattle.map.specs.Map.{alloc_of};
 ghost use Rattle.chain.specs.Steps.{read_at, back_rule, step};
 ghost use Rattle.chain.specs.Files.{last_of};
-ghost use Rattle.state.specs.declared.types.Table.{Table};
-ghost use Rattle.state.specs.World.{before, after, ended, yields, promised};
+ghost use Rattle.state.specs.World.{before, yields, promised};
 ghost use Rattle.writer.specs.Open.{ready_writer, no_page, copy_writer, copied_to, open_last, open_in, open_writer};
-ghost use Rattle.writer.specs.Inner.{behind, page_before, Sized, Stands};
+ghost use Rattle.writer.specs.Inner.{behind, page_before, Leaves, Sized, Stands};
 
 use chain::{PagePointer, Step};
 use state::types::{FileRecord, Refusal, State, Table, Writer};
@@ -75,7 +74,7 @@ fn page_before(image: &[u8], count: usize, f: &FileRecord) -> Result<PagePointer
     }
 }
 
-// The copy's page is allocated at once; nothing is stored yet. It makes no use of the table, so that it is the same with any.
+// The copy's page is allocated at once; nothing is stored yet.
 fn copied_to(
     image: &[u8],
     map: &mut [u8],
@@ -85,12 +84,13 @@ fn copied_to(
     q: &PagePointer,
 ) -> Result<(), Refusal>
     requires { Stands image.now state.old f.now }
-    ensures { (t : Table) → after result image.now map.new t state.new ≡ ended (before image.now map.old t state.old) (copied_to (before image.now map.old t state.old) file f.now q.now (alloc_of map.old state.old.page_count state.old.cursor)) }
+    ensures { Leaves (λ w. copied_to w file f.now q.now (alloc_of map.old state.old.page_count state.old.cursor)) image.now map.old state.old result map.new state.new }
 {
     let count = usize::from(state.page_count);
     let Some(p) = map::allocate(map, count, usize::from(state.cursor)) else {
         return Err(Refusal::NoRoom);
     };
+    // the state is C's, in which an id has 16 bits
     state.cursor = map::beyond_page(p, count) as u16;
     state.writer = copy_writer(image, file, f, q, p as u16);
     Ok(())
@@ -106,7 +106,7 @@ fn open_last(
     f: &FileRecord,
 ) -> Result<(), Refusal>
     requires { Sized image.now state.old }
-    ensures { (t : Table) → after result image.now map.new t state.new ≡ ended (before image.now map.old t state.old) (open_last (before image.now map.old t state.old) file f.now) }
+    ensures { Leaves (λ w. open_last w file f.now) image.now map.old state.old result map.new state.new }
 {
     let count = usize::from(state.page_count);
     let full = usize::from(f.header.length) == page::PAYLOAD_SIZE;
@@ -133,7 +133,7 @@ fn open_in(
     f: &FileRecord,
 ) -> Result<(), Refusal>
     requires { Sized image.now state.old }
-    ensures { (t : Table) → after result image.now map.new t state.new ≡ ended (before image.now map.old t state.old) (open_in (before image.now map.old t state.old) file f.now) }
+    ensures { Leaves (λ w. open_in w file f.now) image.now map.old state.old result map.new state.new }
 {
     if seq::numbers::SEQ_LIMIT < u64::from(f.last_seq) {
         return Err(Refusal::SeqEnd);

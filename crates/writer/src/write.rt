@@ -63,6 +63,7 @@ fn next_page(image: &mut [u8], map: &mut [u8], state: &mut State)
     flush(image, &mut state.writer);
     let count = usize::from(state.page_count);
     if let Some(p) = map::allocate(map, count, usize::from(state.cursor)) {
+        // the state is C's, in which an id has 16 bits
         state.cursor = map::beyond_page(p, count) as u16;
         staged_on(&mut state.writer, p as u16);
     }

@@ -1,6 +1,6 @@
 -- `writer::finish::finish_page` meets its contract.
 -- Assumes nothing.
-use Rattle.state.specs.Values.{with_writer}
+use Rattle.state.specs.Values.{opened, with_writer}
 use Rattle.state.specs.World.{before}
 use Rattle.writer.proofs.Exits.{finished_is}
 use Rattle.writer.proofs.finish.finish_page.Goals as goal
