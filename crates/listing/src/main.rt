@@ -3,15 +3,15 @@
 
 ghost use Rattle.std.specs.Prelude.{◌≤◌, length, IfOk};
 
-use inventory::{FileLine, Inventory};
+use inventory::FileLine;
 use std::io;
 use std::io::Read;
 
 // One file's line, or nothing where the file is empty.
-fn print_line(rt: &impl Print, id: usize, line: FileLine) -> io::Result<()> {
-    if !line.live {
+fn print_line(rt: &impl Print, id: usize, line: Option<FileLine>) -> io::Result<()> {
+    let Some(line) = line else {
         return Ok(());
-    }
+    };
     let first = line.first;
     let last = line.last;
     let flags = line.flags;
@@ -19,39 +19,13 @@ fn print_line(rt: &impl Print, id: usize, line: FileLine) -> io::Result<()> {
     println!(rt; "file {id} first {first} last {last} flags {flags} pages {pages}")
 }
 
-fn one_if(live: bool) -> u64
-    ensures { result ≤ 1 }
-{
-    if live { 1 } else { 0 }
-}
-
-fn count_live(lines: [FileLine; 8]) -> u64 {
-    let a = one_if(lines[0].live)
-        + one_if(lines[1].live)
-        + one_if(lines[2].live)
-        + one_if(lines[3].live);
-    let b = one_if(lines[4].live)
-        + one_if(lines[5].live)
-        + one_if(lines[6].live)
-        + one_if(lines[7].live);
-    a + b
-}
-
-fn print_files(rt: &impl Print, lines: [FileLine; 8]) -> io::Result<()> {
-    let count = count_live(lines);
+fn print_files(rt: &impl Print, lines: [Option<FileLine>; 8]) -> io::Result<()> {
+    let count = lines.iter().filter(|line| line.is_some()).count();
     println!(rt; "files {count}")?;
     for (id, line) in lines.iter().enumerate() {
         print_line(rt, id, *line)?;
     }
     Ok(())
-}
-
-fn print_inventory(rt: &impl Print, inv: Inventory) -> io::Result<()> {
-    let refused = inv.refused;
-    if refused != 0 {
-        return println!(rt; "refused {refused}");
-    }
-    print_files(rt, inv.lines)
 }
 
 // Fills buf as far as the input goes, and answers how many bytes came.
@@ -94,5 +68,11 @@ fn main(rt: HostRuntime) -> io::Result<()> {
     if n == 65537 {
         drain(&mut input)?;
     }
-    print_inventory(&rt, inventory::list_image(&image[..n]))
+    match inventory::list_image(&image[..n]) {
+        Ok(lines) => print_files(&rt, lines),
+        Err(why) => {
+            let refused = u8::from(why);
+            println!(rt; "refused {refused}")
+        }
+    }
 }
