@@ -28,7 +28,7 @@ use lib.Dec.{eqb}
 use borrow.Author.Tests.{eqb-true, eqb-false}
 use Rattle.page.specs.declared.MetaHeader.{MetaHeader}
 use Rattle.metalog.specs.declared.Files.{Files}
-use Rattle.metalog.specs.declared.Replay.{Replay}
+use Rattle.metalog.specs.Log.{Replay}
 use Rattle.state.specs.declared.types.FileRecord.{FileRecord}
 use Rattle.state.specs.declared.types.State.{State}
 use Rattle.state.specs.declared.types.Refusal.{Refusal}

@@ -23,7 +23,7 @@ use lib.ListN.{length, drop, get_or, replicate, get_or-eq_default, get_or-replic
 use lib.Dec.{eqb}
 use borrow.Author.Tests.{eq-eqb}
 use Rattle.page.specs.declared.MetaHeader.{MetaHeader}
-use Rattle.metalog.specs.declared.Replay.{Replay}
+use Rattle.metalog.specs.Log.{Replay}
 use Rattle.state.specs.declared.types.FileRecord.{FileRecord}
 use Rattle.agree.specs.Good.{RecordOk, Known}
 use Rattle.agree.specs.Rules.{ChainOf}

@@ -19,7 +19,7 @@ use native.Mathlib.Omega.{arith}
 use native.Mathlib.Nat.{zero-add, add-zero}
 use lib.ListN.{length, get_or, set}
 use borrow.Author.Tests.{eq-eqb, ne_eqb, le-leb, lt-ltb}
-use Rattle.metalog.specs.declared.Replay.{Replay}
+use Rattle.metalog.specs.Log.{Replay}
 use Rattle.state.specs.declared.types.FileRecord.{FileRecord}
 use Rattle.agree.specs.Good.{RecordOk}
 use Rattle.agree.specs.View.{view, Mapped, as_file}

@@ -23,7 +23,7 @@ use borrow.Author.Tests.{eq-eqb, eqb-true, ltb-true, ltb-false}
 use Rattle.page.specs.declared.MetaHeader.{MetaHeader}
 use Rattle.metalog.specs.declared.Entry.{Entry}
 use Rattle.metalog.specs.declared.Files.{Files}
-use Rattle.metalog.specs.declared.Replay.{Replay}
+use Rattle.metalog.specs.Log.{Replay}
 use Rattle.agree.specs.View.{view, code, Mapped}
 use Rattle.agree.proofs.Keeps.{cond_by}
 use Rattle.agree.proofs.Maps.{code_free, mapped_give, mapped_to}

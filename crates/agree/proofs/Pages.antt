@@ -10,7 +10,7 @@ use native.Mathlib.Omega.{arith}
 use lib.ListN.{length, get_or}
 use Rattle.page.specs.declared.DataHeader.{DataHeader}
 use Rattle.page.specs.declared.MetaHeader.{MetaHeader}
-use Rattle.metalog.specs.declared.Replay.{Replay}
+use Rattle.metalog.specs.Log.{Replay}
 use Rattle.agree.specs.View.{dat_by, seen_by, view}
 use Rattle.owners.specs.Moves.{Change}
 use Rattle.owners.specs.State.{link_of}

@@ -32,7 +32,7 @@ use Rattle.owners.specs.Store.{Owner}
 use Rattle.page.specs.Page.{Bytes}
 use Rattle.page.proofs.Laws.{ran_append, bytes_take, bytes_drop}
 use Rattle.state.specs.Values.{with_cursor, with_writer}
-use Rattle.map.proofs.Laws.{Some}
+use Rattle.map.proofs.Laws.{Finds}
 
 -- ---- room
 
@@ -131,7 +131,7 @@ module _ {D : Type 0} {N : ℕ} {w : World} {x : Writing} (c : ℕ) (l : List �
   left n = length-drop n (c ∷ l)
 
   -- a page is found for the next turn
-  pub page_found : space x.writer ≡ 0 → MapLaws.Some (alloc_of x.map w.state.page_count x.cursor)
+  pub page_found : space x.writer ≡ 0 → MapLaws.Finds (alloc_of x.map w.state.page_count x.cursor)
   page_found e =
       let a = pages_some 0 (suc (length l)) (omega arith) in
       let r = subst (λ (y : ℕ). 0 < pages_for y (suc (length l)) → pages_for y (suc (length l)) < free_count (take w.state.page_count x.map)) e g.room in

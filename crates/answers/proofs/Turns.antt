@@ -1,7 +1,5 @@
 -- What answers rest on: a call's outcome with its answer, buffers of which a part is lent, and bytes that are read. Assumes nothing.
-use Rattle.std.specs.Prelude.{Result}
-use Rattle.state.specs.declared.types.Refusal.{Refusal}
-use Prim.Native.Nat.{ℕ, ◌+◌, ◌-◌, ◌≤◌, min}
+use Prim.Native.Nat.{ℕ, ◌+◌, ◌≤◌, min}
 use mathlib.Core.Path.{◌≡◌, refl, ap}
 use mathlib.Core.List.{List, ◌++◌}
 use native.Mathlib.Decide.{dec_le}
@@ -9,54 +7,20 @@ use native.Mathlib.Nat.{min-eq_left, min-eq_right}
 use native.Mathlib.Omega.{arith}
 use lib.ListN.{length, take, drop, drop_of_length-le}
 use lib.Seq.{take_all, take_at}
-use borrow.Rule.Slice.PartMut.{put_mid}
-use Rattle.runs.specs.Runs.{part, part_of, splice}
-use Rattle.runs.proofs.Laws.{put_splice, part_of_in, length_splice}
-use Rattle.state.specs.World.{After, in_numbers}
-use Rattle.state.specs.Refusals.{numbers, on_done, Done}
-use Rattle.state.proofs.Numbers.{numbers_same, outcome_same}
-use Rattle.search.specs.declared.Answer.{Answer}
-use Rattle.search.specs.Search.{answer_numbers}
-use Rattle.search.proofs.Numbers.{answer_same}
+use Rattle.runs.specs.Runs.{splice}
+use Rattle.state.specs.Refusals.{on_done}
 use Rattle.reader.specs.declared.ReadOut.{ReadOut}
 use Rattle.reader.specs.Read.{AfterRead, after_read, read_told}
-use Rattle.reader.specs.declared.Located.{Located}
-use Rattle.reader.specs.Locate.{located_numbers}
-use Rattle.reader.specs.Skip.{skipped_numbers}
-use Rattle.reader.proofs.Numbers.{read_same, located_same, skipped_same}
+use Rattle.reader.proofs.Numbers.{read_same}
 use Rattle.script.specs.declared.command.Command.{Command}
 use Rattle.script.specs.declared.command.Command.TheVariants as C
 use Rattle.script.specs.declared.command.Setup.{Setup}
 use Rattle.script.specs.Text.{ascii, Spot, puts}
 use Rattle.script.specs.Say as say
 use Rattle.answers.specs.declared.world.World.{World}
-use Rattle.answers.specs.World.{Turned, Left, left, scene}
-use Rattle.answers.specs.Calls.{told_by, told, sight, read_by, located, skipped, sought}
+use Rattle.answers.specs.World.{Turned, left, scene}
+use Rattle.answers.specs.Calls.{sight, read_by}
 use Rattle.answers.specs.Answer.{on_lent, rejoined, on_buffers, on_command}
-
--- a call's outcome with its answer: the promise's equation of numbers is one of answers
-told_left : {A : Type 0} (f : A → List ℕ) → ((a b : A) → f a ≡ f b → a ≡ b) → (say : A → List (List ℕ)) (w : World) (p : Spot) (t : Turned) (x a : After A)
-    → t ≡ told_by w p (say x.answer) x.world.table x.world.state → in_numbers f x ≡ in_numbers f a → left x.world.image x.world.map t ≡ told say w p a
-told_left f same say w p t x a e g = rw e (ap (told say w p) (outcome_same f same x a g))
-
-pub done_left : (w : World) (p : Spot) (t : Turned) (x a : After Done) → t ≡ told_by w p (say.done x.answer) x.world.table x.world.state
-    → in_numbers numbers x ≡ in_numbers numbers a → left x.world.image x.world.map t ≡ told say.done w p a
-done_left = told_left numbers numbers_same say.done
-
-pub sought_left : (w : World) (p : Spot) (t : Turned) (x a : After Answer) → t ≡ told_by w p (sought x.answer) x.world.table x.world.state
-    → in_numbers answer_numbers x ≡ in_numbers answer_numbers a → left x.world.image x.world.map t ≡ told sought w p a
-sought_left = told_left answer_numbers answer_same sought
-
--- a value's answer, where the call changes nothing
-pub located_left : (p s : Spot) (f g : Located) → s ≡ puts p (located f) → located_numbers f ≡ located_numbers g → s ≡ puts p (located g)
-located_left p s f g e h = rw (← located_same f g h) e
-
-pub skipped_left : (p s : Spot) (f g : Result ℕ Refusal) → s ≡ puts p (skipped f) → skipped_numbers f ≡ skipped_numbers g → s ≡ puts p (skipped g)
-skipped_left p s f g e h = rw (← skipped_same f g h) e
-
--- an answer alone
-pub said_left : (i m : List ℕ) (w : World) (s q : Spot) → s ≡ q → ◌≡◌ {A = Left} (left i m (record { out = s; world = w })) (left i m (record { out = q; world = w }))
-said_left i m w s q e = rw e
 
 -- ---- what is lent
 
@@ -78,7 +42,6 @@ drop_least n l = elim (dec_le n (length l)) [
 
 -- a command that is no setup is one on what is lent
 pub other : (c : Command) (i m b : List ℕ) (w : World) (p : Spot) → ((what : Setup) → c ≡ C.Setup what → ⊥) → on_command c i m b w p ≡ on_buffers c i m b w p
-unfolding on_command
 other (C.Setup what) i m b w p h = absurd (h what refl)
 other (C.Volume what) i m b w p h = refl
 other (C.Reading what) i m b w p h = refl
@@ -87,37 +50,27 @@ other (C.Writing what) i m b w p h = refl
 other (C.Files what) i m b w p h = refl
 other (C.Show what) i m b w p h = refl
 other (C.Helper what) i m b w p h = refl
-other C.Bad i m b w p h = refl
 other C.Nothing i m b w p h = refl
 
 -- ---- bytes that are read
 
-module _ (b o : List ℕ) (n : ℕ) (fits : n ≤ length b) (k : length o ≡ n) where
-  pub back_splice : put_mid 0 (n - 0) b o ≡ splice b 0 o
-  back_splice = put_splice b 0 (n - 0) o (omega arith)
+back_splice : (b o : List ℕ) (n : ℕ) → length o ≡ n → o ++ drop n b ≡ splice b 0 o
+unfolding splice
+back_splice b o n k = let z : 0 + n ≡ n = omega arith in rw (k, z)
 
-  pub back_part : part_of (splice b 0 o) 0 n ≡ o
-  unfolding part splice
-  back_part =
-      let h : 0 + length o ≤ length b = omega arith in
-      let g : 0 + n ≤ length (splice b 0 o) = rw (length_splice b 0 o h) (omega arith) in
-      rw (part_of_in (splice b 0 o) 0 n g) (take_at o (drop (0 + length o) b) n k)
+-- in front of what it left are the bytes that it read
+pub back_part : (b o : List ℕ) (n : ℕ) → length o ≡ n → take n (o ++ drop n b) ≡ o
+back_part b o n k = take_at o (drop n b) n k
 
 -- the bytes that a read leaves, with its answer
-pub read_left : (b o : List ℕ) (n : ℕ) → n ≤ length b → length o ≡ n → (p q : Spot) (r : ReadOut) (a : AfterRead)
-    → read_told (after_read r o) ≡ read_told a → q ≡ puts p (on_done r.answer say.refused (say.hex (ascii "bytes") o)) → sight (put_mid 0 (n - 0) b o) q ≡ read_by b p a
-read_left b o n fits k p q r a e f = rw (back_splice b o n fits k, f) (ap (read_by b p) (read_same (after_read r o) a e))
+pub read_left : (b o : List ℕ) (n : ℕ) → length o ≡ n → (p q : Spot) (r : ReadOut) (a : AfterRead) → read_told (after_read r o) ≡ read_told a
+    → q ≡ puts p (on_done r.answer say.refused (say.hex (ascii "bytes") o)) → sight (o ++ drop n b) q ≡ read_by b p a
+read_left b o n k p q r a e f = rw (back_splice b o n k, f) (ap (read_by b p) (read_same (after_read r o) a e))
 
 -- ---- what was lent comes back
 
-least_take : (n x : ℕ) (l : List ℕ) → x ≡ min n (length l) → take (x - 0) l ≡ take n l
-least_take n x l e = let z : x - 0 ≡ x = omega arith in rw (z, e) (take_least n l)
-
-least_drop : (n x : ℕ) (l : List ℕ) → x ≡ min n (length l) → drop (x - 0) l ≡ drop n l
-least_drop n x l e = let z : x - 0 ≡ x = omega arith in rw (z, e) (drop_least n l)
-
 pub lent_back : (c : Command) (i m b : List ℕ) (w : World) (p : Spot) (x y : ℕ) (i' m' b' : List ℕ) (t : Turned) → x ≡ min w.image (length i) → y ≡ min w.map (length m)
-    → scene b' (left i' m' t) ≡ on_lent c (take (x - 0) i) (take (y - 0) m) b w p → scene b' (left (i' ++ drop (x - 0) i) (m' ++ drop (y - 0) m) t) ≡ on_buffers c i m b w p
+    → scene b' (left i' m' t) ≡ on_lent c (take x i) (take y m) b w p → scene b' (left (i' ++ drop x i) (m' ++ drop y m) t) ≡ on_buffers c i m b w p
 lent_back c i m b w p x y i' m' b' t e f h =
-    let g : scene b' (left i' m' t) ≡ on_lent c (take w.image i) (take w.map m) b w p = rw (← least_take w.image x i e, ← least_take w.map y m f) h in
-    rw (least_drop w.image x i e, least_drop w.map y m f) (ap (rejoined i m w) g)
+    let g : scene b' (left i' m' t) ≡ on_lent c (take w.image i) (take w.map m) b w p = rw (← take_least w.image i, ← take_least w.map m, ← e, ← f) h in
+    rw (e, f, drop_least w.image i, drop_least w.map m) (ap (rejoined i m w) g)

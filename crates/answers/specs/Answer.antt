@@ -1,8 +1,9 @@
 -- The answer to a line, by docs/REPLAY.md. Assumes nothing: these are definitions.
-use Rattle.std.specs.Prelude.{ℕ, ◌+◌, List, [], ◌++◌, cond, leb, length, take, drop, replicate}
+use Rattle.std.specs.Prelude.{ℕ, ◌+◌, List, [], ◌++◌, Option, Some, None, cond, leb, length, take, drop, replicate}
 use Rattle.runs.specs.Runs.{part_of, placed}
 use Rattle.script.specs.declared.command.Setup.{Setup}
-use Rattle.script.specs.declared.command.Setup.TheVariants.{Lend, New, Blank, Poke, PokeMap}
+use Rattle.script.specs.declared.command.Setup.TheVariants.{Lend, New, Blank, Poke}
+use Rattle.script.specs.declared.command.Buffer.TheVariants.{Image, Map}
 use Rattle.script.specs.declared.command.Command.{Command}
 use Rattle.script.specs.declared.command.Command.TheVariants as C
 use Rattle.script.specs.Text.{Spot, puts}
@@ -24,7 +25,7 @@ abbrev pub lending : World → ℕ → ℕ → World
 lending w image map = record { table = w.table; state = w.state; image = image; map = map }
 
 -- a buffer with a run poked into it, and what is said of it: `bad` past its end
-unfoldable pub poked_by : List ℕ → ℕ → List ℕ → Spot → Sight
+abbrev pub poked_by : List ℕ → ℕ → List ℕ → Spot → Sight
 poked_by l at run p = sight (placed l at run) (puts p (cond (leb (at + length run) (length l)) ok bad))
 
 abbrev pub poked_image : List ℕ → World → Sight → Left
@@ -33,19 +34,19 @@ poked_image m w s = left s.bytes m (record { out = s.out; world = w })
 abbrev pub poked_map : List ℕ → World → Sight → Left
 poked_map i w s = left i s.bytes (record { out = s.out; world = w })
 
-unfoldable pub on_setup : Setup → List ℕ → List ℕ → List ℕ → World → Spot → Left
+abbrev pub on_setup : Setup → List ℕ → List ℕ → List ℕ → World → Spot → Left
 on_setup (Lend a b) i m bytes w p = left i m (saying (lending w a b) p ok)
 on_setup (New seed) i m bytes w p = left i m (saying (fresh seed w.image w.map) p ok)
 on_setup Blank i m bytes w p = left (replicate (length i) 255) (replicate (length m) 0) (saying w p ok)
-on_setup (Poke at n) i m bytes w p = poked_image m w (poked_by i at (part_of bytes 0 n) p)
-on_setup (PokeMap at n) i m bytes w p = poked_map i w (poked_by m at (part_of bytes 0 n) p)
+on_setup (Poke Image at n) i m bytes w p = poked_image m w (poked_by i at (part_of bytes 0 n) p)
+on_setup (Poke Map at n) i m bytes w p = poked_map i w (poked_by m at (part_of bytes 0 n) p)
 
 -- ---- the others, on what is lent of the buffers
 
 abbrev pub seen : List ℕ → List ℕ → World → Sight → Scene
 seen i m w s = scene s.bytes (left i m (record { out = s.out; world = w }))
 
-unfoldable pub on_lent : Command → List ℕ → List ℕ → List ℕ → World → Spot → Scene
+abbrev pub on_lent : Command → List ℕ → List ℕ → List ℕ → World → Spot → Scene
 on_lent (C.Volume what) i m b w p = scene b (on_volume what i m w p)
 on_lent (C.Reading what) i m b w p = seen i m w (on_reading what i m b w p)
 on_lent (C.Searching what) i m b w p = scene b (on_searching what i m w p)
@@ -53,7 +54,6 @@ on_lent (C.Writing what) i m b w p = scene b (on_writing what b i m w p)
 on_lent (C.Files what) i m b w p = scene b (on_files what i m w p)
 on_lent (C.Show what) i m b w p = scene b (left i m (saying w p (shown i m w.table w.state what)))
 on_lent (C.Helper what) i m b w p = scene b (left i m (saying w p (on_helper what)))
-on_lent C.Bad i m b w p = scene b (left i m (saying w p bad))
 on_lent (C.Setup what) i m b w p = scene b (left i m (saying w p []))
 on_lent C.Nothing i m b w p = scene b (left i m (saying w p []))
 
@@ -64,7 +64,7 @@ rejoined i m w s = scene s.bytes (left (s.left.image ++ drop w.image i) (s.left.
 abbrev pub on_buffers : Command → List ℕ → List ℕ → List ℕ → World → Spot → Scene
 on_buffers c i m b w p = rejoined i m w (on_lent c (take w.image i) (take w.map m) b w p)
 
-unfoldable pub on_command : Command → List ℕ → List ℕ → List ℕ → World → Spot → Scene
+abbrev pub on_command : Command → List ℕ → List ℕ → List ℕ → World → Spot → Scene
 on_command (C.Setup what) i m b w p = scene b (on_setup what i m b w p)
 on_command (C.Volume what) i m b w p = on_buffers (C.Volume what) i m b w p
 on_command (C.Reading what) i m b w p = on_buffers (C.Reading what) i m b w p
@@ -73,12 +73,16 @@ on_command (C.Writing what) i m b w p = on_buffers (C.Writing what) i m b w p
 on_command (C.Files what) i m b w p = on_buffers (C.Files what) i m b w p
 on_command (C.Show what) i m b w p = on_buffers (C.Show what) i m b w p
 on_command (C.Helper what) i m b w p = on_buffers (C.Helper what) i m b w p
-on_command C.Bad i m b w p = on_buffers C.Bad i m b w p
 on_command C.Nothing i m b w p = on_buffers C.Nothing i m b w p
+
+-- a line that is no command changes nothing
+abbrev pub on_line : Option Command → List ℕ → List ℕ → List ℕ → World → Spot → Scene
+on_line None i m b w p = scene b (left i m (saying w p bad))
+on_line (Some c) i m b w p = on_command c i m b w p
 
 -- the answer to a line: its command's, with the bytes that the command carries
 abbrev pub answered_by : Told → List ℕ → List ℕ → World → Spot → Scene
-answered_by t i m w p = on_command t.command i m t.buffer w p
+answered_by t i m w p = on_line t.command i m t.buffer w p
 
-unfoldable pub answered : List ℕ → List ℕ → List ℕ → List ℕ → World → Spot → Scene
+abbrev pub answered : List ℕ → List ℕ → List ℕ → List ℕ → World → Spot → Scene
 answered line i m b w p = answered_by (command_of line b) i m w p

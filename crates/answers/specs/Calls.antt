@@ -1,6 +1,6 @@
 -- The calls that commands make, and what is said of each answer, by docs/REPLAY.md. Assumes nothing: these are definitions.
 use Rattle.state.specs.declared.types.Refusal.{Refusal}
-use Rattle.std.specs.Prelude.{ℕ, List, cond, ltb, length, take, Result}
+use Rattle.std.specs.Prelude.{ℕ, List, [], ◌∷◌, cond, ltb, length, take, Result}
 use Rattle.runs.specs.Runs.{part_of, splice}
 use Rattle.seq.specs.Seq.{Reply, number, refused, zeros_says, index_says, jump_says}
 use Rattle.seq.specs.Seed.{seed_after}
@@ -40,7 +40,7 @@ use Rattle.script.specs.declared.command.Helper.{Helper}
 use Rattle.script.specs.declared.command.Helper.TheVariants.{Zeros, Index, SpanSeq, Seed}
 use Rattle.script.specs.Text.{ascii, Spot, puts}
 use Rattle.script.specs.Say as say
-use Rattle.script.specs.Say.{with_one, with_two, hex, bad}
+use Rattle.script.specs.Say.{formed, hex, bad}
 use Rattle.answers.specs.declared.world.World.{World}
 use Rattle.answers.specs.World.{Turned, Left, left}
 
@@ -59,18 +59,18 @@ told say w p a = left a.world.image a.world.map (told_by w p (say a.answer) a.wo
 abbrev pub done_by : (W.World → W.Outcome Done) → List ℕ → List ℕ → World → Spot → Left
 done_by call i m w p = told say.done w p (after_call call (lent i m w))
 
-unfoldable pub on_volume : Volume → List ℕ → List ℕ → World → Spot → Left
+abbrev pub on_volume : Volume → List ℕ → List ℕ → World → Spot → Left
 on_volume Format i m w p = done_by VolumeFormat.format i m w p
 on_volume Mount i m w p = done_by VolumeMount.mount i m w p
 
 -- ---- reading
 
-unfoldable pub located : Located → List (List ℕ)
-located (L.At page count) = with_two (ascii "at % %\n") page count
+abbrev pub located : Located → List (List ℕ)
+located (L.At page count) = formed (ascii "at % %\n") (page ∷ count ∷ [])
 located (L.Refused why) = say.refused why
 
-unfoldable pub skipped : Result ℕ Refusal → List (List ℕ)
-skipped (S.To seq) = with_one (ascii "to %\n") seq
+abbrev pub skipped : Result ℕ Refusal → List (List ℕ)
+skipped (S.To seq) = formed (ascii "to %\n") (seq ∷ [])
 skipped (S.Refused why) = say.refused why
 
 -- a buffer, here the bytes that commands carry, and the output
@@ -85,38 +85,38 @@ sight b p = record { bytes = b; out = p }
 abbrev pub read_by : List ℕ → Spot → ReaderRead.AfterRead → Sight
 read_by b p a = sight (splice b 0 a.out) (puts p (on_done a.answer say.refused (hex (ascii "bytes") a.out)))
 
-unfoldable pub read_of : W.World → ℕ → ℕ → ℕ → List ℕ → Spot → Sight
+abbrev pub read_of : W.World → ℕ → ℕ → ℕ → List ℕ → Spot → Sight
 read_of v file seq n b p =
     cond (ltb (length b) n) (sight b (puts p bad))
     (read_by b p (ReaderRead.read v (record { file = file; seq = seq }) (take n b)))
 
-unfoldable pub on_reading : Reading → List ℕ → List ℕ → List ℕ → World → Spot → Sight
+abbrev pub on_reading : Reading → List ℕ → List ℕ → List ℕ → World → Spot → Sight
 on_reading (Locate file seq) i m b w p = sight b (puts p (located (ReaderLocate.locate (lent i m w) file seq)))
 on_reading (Read file seq n) i m b w p = read_of (lent i m w) file seq n b p
 on_reading (Skip file seq n) i m b w p = sight b (puts p (skipped (ReaderSkip.skip (lent i m w) (record { file = file; seq = seq }) n)))
 
 -- ---- search
 
-unfoldable pub sought : Answer → List (List ℕ)
-sought (A.Offer seq) = with_one (ascii "offer %\n") seq
-sought (A.End seq) = with_one (ascii "end %\n") seq
+abbrev pub sought : Answer → List (List ℕ)
+sought (A.Offer seq) = formed (ascii "offer %\n") (seq ∷ [])
+sought (A.End seq) = formed (ascii "end %\n") (seq ∷ [])
 sought (A.Refused why) = say.refused why
 
-unfoldable pub on_searching : Searching → List ℕ → List ℕ → World → Spot → Left
+abbrev pub on_searching : Searching → List ℕ → List ℕ → World → Spot → Left
 on_searching (Search file) i m w p = told sought w p (after_call (λ v. SearchCalls.start v file) (lent i m w))
 on_searching ToLeft i m w p = told sought w p (after_call SearchCalls.left (lent i m w))
 on_searching ToRight i m w p = told sought w p (after_call SearchCalls.right (lent i m w))
 
 -- ---- writing and files
 
-unfoldable pub on_writing : Writing → List ℕ → List ℕ → List ℕ → World → Spot → Left
+abbrev pub on_writing : Writing → List ℕ → List ℕ → List ℕ → World → Spot → Left
 on_writing (Open file) b i m w p = done_by (λ v. open_writer v file) i m w p
 on_writing (Write n) b i m w p = done_by (λ v. WriterWrite.write v (part_of b 0 n)) i m w p
 on_writing End b i m w p = done_by WriterWrite.record_end i m w p
 on_writing Finish b i m w p = done_by WriterFinish.finish i m w p
 on_writing Discard b i m w p = done_by WriterFinish.discard i m w p
 
-unfoldable pub on_files : Files → List ℕ → List ℕ → World → Spot → Left
+abbrev pub on_files : Files → List ℕ → List ℕ → World → Spot → Left
 on_files (Truncate file n) i m w p = done_by (λ v. TransactTruncate.truncate v file n) i m w p
 on_files (Rename from to) i m w p = done_by (λ v. TransactRename.rename v from to) i m w p
 on_files (Flags file flags) i m w p = done_by (λ v. TransactRename.flags v file flags) i m w p
@@ -125,11 +125,11 @@ on_files Commit i m w p = done_by TransactCommit.commit i m w p
 -- ---- helpers: a number, or a refusal by its number
 
 abbrev pub replied : Reply → List (List ℕ)
-replied (number n) = with_one (ascii "value %\n") n
-replied (refused n) = with_one (ascii "refused %\n") n
+replied (number n) = formed (ascii "value %\n") (n ∷ [])
+replied (refused n) = formed (ascii "refused %\n") (n ∷ [])
 
-unfoldable pub on_helper : Helper → List (List ℕ)
+abbrev pub on_helper : Helper → List (List ℕ)
 on_helper (Zeros a b) = replied (zeros_says a b)
 on_helper (Index a b) = replied (index_says a b)
 on_helper (SpanSeq n i) = replied (jump_says n i)
-on_helper (Seed s) = with_one (ascii "value %\n") (seed_after s)
+on_helper (Seed s) = formed (ascii "value %\n") (seed_after s ∷ [])

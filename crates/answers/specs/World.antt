@@ -1,9 +1,8 @@
 -- The world of a script, by docs/REPLAY.md, "The world of a script", and what an answer leaves. Assumes nothing: these are definitions.
 use Rattle.std.specs.Prelude.{ℕ, List}
-use Rattle.script.specs.Text.{Spot, spot}
+use Rattle.script.specs.Text.{Spot}
 use Rattle.state.specs.Values.{empty_table, unmounted}
 use Rattle.answers.specs.declared.world.World.{World}
-use Rattle.answers.specs.declared.world.Turn.{Turn}
 
 -- at the start, and after `new`: eight empty files and a fresh state with this seed; what is lent stays
 abbrev pub fresh : ℕ → ℕ → ℕ → World
@@ -14,8 +13,8 @@ pub record Turned : Type 0 where
   pub out : Spot
   pub world : World
 
-abbrev pub turned : List ℕ → Turn → Turned
-turned out t = record { out = spot out t.at; world = t.world }
+abbrev pub turned : Spot → World → Turned
+turned out w = record { out = out; world = w }
 
 -- with the image and the map then, and with the bytes that commands carry
 pub record Left : Type 0 where

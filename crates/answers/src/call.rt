@@ -3,303 +3,210 @@ ghost use Rattle.std.specs.Prelude.{◌≡◌};
 ghost use Rattle.seq.specs.Seq.{reply};
 ghost use Rattle.state.specs.World.{before};
 ghost use Rattle.state.specs.Values.{with_search};
-ghost use Rattle.script.specs.Text.{spot, puts};
+ghost use Rattle.script.specs.Text.{puts};
 ghost use Rattle.script.specs.Say.{done};
 ghost use Rattle.script.specs.Show.{shown};
 ghost use Rattle.answers.specs.World.{turned, left};
 ghost use Rattle.answers.specs.Calls.{told_by, on_volume, located, skipped, sight, read_of, on_reading, sought, on_searching, on_writing, on_files, replied, on_helper};
 
-use crate::world::{Turn, World};
+use crate::world::World;
 use reader::{Located, Reader, Skipped};
 use script::command::{Files, Helper, Reading, Searching, Show, Volume, Writing};
+use script::text::Output;
 use script::{say, show};
 use search::SearchOut;
-use state::types::{Done, Out, State, Table};
+use state::types::{Done, Out};
 
-// What a call hands back is the world from then on.
-fn told(out: &mut [u8], at: usize, world: World, r: Out) -> Turn
-    ensures { turned out.new result ≡ told_by world (spot out.old at) (done r.answer) r.table r.state }
-{
-    let answer = r.answer;
-    let table = r.table;
-    let state = r.state;
-    let next = say::done(out, at, answer);
-    let world = World {
-        table,
-        state,
-        image: world.image,
-        map: world.map,
-    };
-    Turn { world, at: next }
-}
-
-pub fn on_volume(
-    image: &mut [u8],
-    map: &mut [u8],
-    out: &mut [u8],
-    at: usize,
-    world: World,
-    what: Volume,
-) -> Turn
-    ensures { left image.new map.new (turned out.new result) ≡ on_volume what image.old map.old world (spot out.old at) }
-{
-    let table = world.table;
-    let state = world.state;
-    match what {
-        Volume::Format => {
-            let r = volume::format(image, map, table, state);
-            told(out, at, world, r)
-        }
-        Volume::Mount => {
-            let r = volume::mount(image, map, table, state);
-            told(out, at, world, r)
-        }
-    }
-}
-
-fn said_located(out: &mut [u8], at: usize, found: Located) -> usize
-    ensures { spot out.new result ≡ puts (spot out.old at) (located found) }
+fn said_located(output: &mut Output, found: Located)
+    ensures { output.new ≡ puts output.old (located found) }
 {
     match found {
-        Located::At(page, count) => { say::two(out, at, b"at % %\n", page as u64, count) }
-        Located::Refused(why) => say::refused(out, at, why),
+        Located::At(page, count) => {
+            say::form(output, b"at % %\n", &[page as u64, u64::from(count)]);
+        }
+        Located::Refused(why) => say::refused(output, why),
     }
 }
 
-fn said_skipped(out: &mut [u8], at: usize, answer: Skipped) -> usize
-    ensures { spot out.new result ≡ puts (spot out.old at) (skipped answer) }
+fn said_skipped(output: &mut Output, answer: Skipped)
+    ensures { output.new ≡ puts output.old (skipped answer) }
 {
     match answer {
-        Skipped::To(seq) => say::one(out, at, b"to %\n", seq),
-        Skipped::Refused(why) => say::refused(out, at, why),
+        Skipped::To(seq) => say::form(output, b"to %\n", &[u64::from(seq)]),
+        Skipped::Refused(why) => say::refused(output, why),
     }
 }
 
-// What is read goes by way of the lent bytes.
-fn read(
-    image: &[u8],
-    map: &[u8],
-    bytes: &mut [u8],
-    out: &mut [u8],
-    at: usize,
-    table: Table,
-    state: State,
-    from: Reader,
-    n: usize,
-) -> usize
-    ensures { sight bytes.new (spot out.new result) ≡ read_of (before image.now map.now table state) from.file from.seq n bytes.old (spot out.old at) }
-{
-    if bytes.len() < n {
-        return say::bad(out, at);
-    }
-    let r = reader::read(image, map, table, state, from, &mut bytes[0..n]);
-    let answer = r.answer;
-    match answer {
-        Done::Done => say::hex(out, at, b"bytes", runs::part_of(bytes, 0, n)),
-        Done::Refused(why) => say::refused(out, at, why),
-    }
-}
-
-pub fn on_reading(
-    image: &[u8],
-    map: &[u8],
-    bytes: &mut [u8],
-    out: &mut [u8],
-    at: usize,
-    world: World,
-    what: Reading,
-) -> usize
-    ensures { sight bytes.new (spot out.new result) ≡ on_reading what image.now map.now bytes.old world (spot out.old at) }
-{
-    let table = world.table;
-    let state = world.state;
-    match what {
-        Reading::Locate(file, seq) => {
-            said_located(out, at, reader::locate(image, map, table, state, file, seq))
-        }
-        Reading::Read(file, seq, n) => {
-            read(
-                image,
-                map,
-                bytes,
-                out,
-                at,
-                table,
-                state,
-                Reader { file, seq },
-                n,
-            )
-        }
-        Reading::Skip(file, seq, n) => {
-            said_skipped(
-                out,
-                at,
-                reader::skip(image, map, table, state, Reader { file, seq }, n),
-            )
-        }
-    }
-}
-
-fn said_searched(out: &mut [u8], at: usize, answer: search::Answer) -> usize
-    ensures { spot out.new result ≡ puts (spot out.old at) (sought answer) }
+fn said_searched(output: &mut Output, answer: search::Answer)
+    ensures { output.new ≡ puts output.old (sought answer) }
 {
     match answer {
-        search::Answer::Offer(seq) => say::one(out, at, b"offer %\n", seq),
-        search::Answer::End(seq) => say::one(out, at, b"end %\n", seq),
-        search::Answer::Refused(why) => say::refused(out, at, why),
+        search::Answer::Offer(seq) => say::form(output, b"offer %\n", &[u64::from(seq)]),
+        search::Answer::End(seq) => say::form(output, b"end %\n", &[u64::from(seq)]),
+        search::Answer::Refused(why) => say::refused(output, why),
     }
 }
 
-// The search is all of the state that its calls change.
-fn searched(out: &mut [u8], at: usize, world: World, r: SearchOut) -> Turn
-    ensures { turned out.new result ≡ told_by world (spot out.old at) (sought r.answer) world.table (with_search world.state r.search) }
-{
-    let answer = r.answer;
-    let search = r.search;
-    let table = world.table;
-    let mut state = world.state;
-    state.search = search;
-    let next = said_searched(out, at, answer);
-    let world = World {
-        table,
-        state,
-        image: world.image,
-        map: world.map,
-    };
-    Turn { world, at: next }
-}
+impl World {
+    // What a call hands back is the world from then on.
+    fn told(&mut self, output: &mut Output, r: Out)
+        ensures { turned output.new self.new ≡ told_by self.old output.old (done r.answer) r.table r.state }
+    {
+        say::done(output, r.answer);
+        self.table = r.table;
+        self.state = r.state;
+    }
 
-pub fn on_searching(
-    image: &[u8],
-    map: &[u8],
-    out: &mut [u8],
-    at: usize,
-    world: World,
-    what: Searching,
-) -> Turn
-    ensures { left image.now map.now (turned out.new result) ≡ on_searching what image.now map.now world (spot out.old at) }
-{
-    let table = world.table;
-    let state = world.state;
-    match what {
-        Searching::Search(file) => {
-            let r = search::search::search(image, map, table, state, file);
-            searched(out, at, world, r)
+    pub fn on_volume(&mut self, image: &mut [u8], map: &mut [u8], output: &mut Output, what: Volume)
+        ensures { left image.new map.new (turned output.new self.new) ≡ on_volume what image.old map.old self.old output.old }
+    {
+        let table = self.table;
+        let state = self.state;
+        let r = match what {
+            Volume::Format => volume::format(image, map, table, state),
+            Volume::Mount => volume::mount(image, map, table, state),
+        };
+        self.told(output, r);
+    }
+
+    // What is read goes by way of the lent bytes.
+    fn read(
+        &self,
+        image: &[u8],
+        map: &[u8],
+        bytes: &mut [u8],
+        output: &mut Output,
+        from: Reader,
+        n: usize,
+    )
+        ensures { sight bytes.new output.new ≡ read_of (before image.now map.now self.now.table self.now.state) from.file from.seq n bytes.old output.old }
+    {
+        if bytes.len() < n {
+            say::bad(output);
+            return;
         }
-        Searching::Left => {
-            let r = search::search::left(image, map, state);
-            searched(out, at, world, r)
+        let r = reader::read(image, map, self.table, self.state, from, &mut bytes[..n]);
+        match r.answer {
+            Done::Done => say::hex(output, b"bytes", &bytes[..n]),
+            Done::Refused(why) => say::refused(output, why),
         }
-        Searching::Right => {
-            let r = search::search::right(image, map, state);
-            searched(out, at, world, r)
+    }
+
+    pub fn on_reading(
+        &self,
+        image: &[u8],
+        map: &[u8],
+        bytes: &mut [u8],
+        output: &mut Output,
+        what: Reading,
+    )
+        ensures { sight bytes.new output.new ≡ on_reading what image.now map.now bytes.old self.now output.old }
+    {
+        let table = self.table;
+        let state = self.state;
+        match what {
+            Reading::Locate(file, seq) => {
+                said_located(output, reader::locate(image, map, table, state, file, seq));
+            }
+            Reading::Read(file, seq, n) => {
+                self.read(image, map, bytes, output, Reader { file, seq }, n);
+            }
+            Reading::Skip(file, seq, n) => {
+                let from = Reader { file, seq };
+                said_skipped(output, reader::skip(image, map, table, state, from, n));
+            }
         }
+    }
+
+    // The search is all of the state that its calls change.
+    fn searched(&mut self, output: &mut Output, r: SearchOut)
+        ensures { turned output.new self.new ≡ told_by self.old output.old (sought r.answer) self.old.table (with_search self.old.state r.search) }
+    {
+        said_searched(output, r.answer);
+        self.state.search = r.search;
+    }
+
+    pub fn on_searching(&mut self, image: &[u8], map: &[u8], output: &mut Output, what: Searching)
+        ensures { left image.now map.now (turned output.new self.new) ≡ on_searching what image.now map.now self.old output.old }
+    {
+        let table = self.table;
+        let state = self.state;
+        let r = match what {
+            Searching::Search(file) => search::search::search(image, map, table, state, file),
+            Searching::Left => search::search::left(image, map, state),
+            Searching::Right => search::search::right(image, map, state),
+        };
+        self.searched(output, r);
+    }
+
+    pub fn on_writing(
+        &mut self,
+        image: &mut [u8],
+        map: &mut [u8],
+        bytes: &[u8],
+        output: &mut Output,
+        what: Writing,
+    )
+        ensures { left image.new map.new (turned output.new self.new) ≡ on_writing what bytes.now image.old map.old self.old output.old }
+    {
+        let table = self.table;
+        let state = self.state;
+        let r = match what {
+            Writing::Open(file) => writer::open::open(image, map, table, state, file),
+            Writing::Write(n) => {
+                writer::write::write(image, map, table, state, runs::part_of(bytes, 0, n))
+            }
+            Writing::End => writer::write::record_end(image, map, table, state),
+            Writing::Finish => writer::finish::finish(image, map, table, state),
+            Writing::Discard => writer::finish::discard(image, map, table, state),
+        };
+        self.told(output, r);
+    }
+
+    pub fn on_files(&mut self, image: &mut [u8], map: &mut [u8], output: &mut Output, what: Files)
+        ensures { left image.new map.new (turned output.new self.new) ≡ on_files what image.old map.old self.old output.old }
+    {
+        let table = self.table;
+        let state = self.state;
+        let r = match what {
+            Files::Truncate(file, n) => {
+                transact::truncate::truncate(image, map, table, state, file, n)
+            }
+            Files::Rename(from, to) => transact::rename::rename(image, map, table, state, from, to),
+            Files::Flags(file, flags) => {
+                transact::flags::changed(image, map, table, state, file, flags)
+            }
+            Files::Commit => transact::commit::commit(image, map, table, state),
+        };
+        self.told(output, r);
+    }
+
+    pub fn on_show(&self, image: &[u8], map: &[u8], output: &mut Output, what: Show)
+        ensures { output.new ≡ puts output.old (shown image.now map.now self.now.table self.now.state what) }
+    {
+        show::on_show(output, image, map, self.table, self.state, what);
     }
 }
 
-pub fn on_writing(
-    image: &mut [u8],
-    map: &mut [u8],
-    bytes: &[u8],
-    out: &mut [u8],
-    at: usize,
-    world: World,
-    what: Writing,
-) -> Turn
-    ensures { left image.new map.new (turned out.new result) ≡ on_writing what bytes.now image.old map.old world (spot out.old at) }
-{
-    let table = world.table;
-    let state = world.state;
-    match what {
-        Writing::Open(file) => {
-            let r = writer::open::open(image, map, table, state, file);
-            told(out, at, world, r)
-        }
-        Writing::Write(n) => {
-            let r = writer::write::write(image, map, table, state, runs::part_of(bytes, 0, n));
-            told(out, at, world, r)
-        }
-        Writing::End => {
-            let r = writer::write::record_end(image, map, table, state);
-            told(out, at, world, r)
-        }
-        Writing::Finish => {
-            let r = writer::finish::finish(image, map, table, state);
-            told(out, at, world, r)
-        }
-        Writing::Discard => {
-            let r = writer::finish::discard(image, map, table, state);
-            told(out, at, world, r)
-        }
-    }
-}
-
-pub fn on_files(
-    image: &mut [u8],
-    map: &mut [u8],
-    out: &mut [u8],
-    at: usize,
-    world: World,
-    what: Files,
-) -> Turn
-    ensures { left image.new map.new (turned out.new result) ≡ on_files what image.old map.old world (spot out.old at) }
-{
-    let table = world.table;
-    let state = world.state;
-    match what {
-        Files::Truncate(file, n) => {
-            let r = transact::truncate::truncate(image, map, table, state, file, n);
-            told(out, at, world, r)
-        }
-        Files::Rename(from, to) => {
-            let r = transact::rename::rename(image, map, table, state, from, to);
-            told(out, at, world, r)
-        }
-        Files::Flags(file, flags) => {
-            let r = transact::flags::changed(image, map, table, state, file, flags);
-            told(out, at, world, r)
-        }
-        Files::Commit => {
-            let r = transact::commit::commit(image, map, table, state);
-            told(out, at, world, r)
-        }
-    }
-}
-
-pub fn on_show(
-    image: &[u8],
-    map: &[u8],
-    out: &mut [u8],
-    at: usize,
-    world: World,
-    what: Show,
-) -> usize
-    ensures { spot out.new result ≡ puts (spot out.old at) (shown image.now map.now world.table world.state what) }
-{
-    let table = world.table;
-    let state = world.state;
-    show::on_show(image, map, out, at, table, state, what)
-}
-
-fn said_number(out: &mut [u8], at: usize, answer: seq::numbers::Answer) -> usize
-    ensures { spot out.new result ≡ puts (spot out.old at) (replied (reply answer)) }
+fn said_number(output: &mut Output, answer: seq::numbers::Answer)
+    ensures { output.new ≡ puts output.old (replied (reply answer)) }
 {
     match answer {
-        seq::numbers::Answer::Number(n) => say::one(out, at, b"value %\n", n),
-        seq::numbers::Answer::Range => say::refused(out, at, state::types::Refusal::Range),
-        seq::numbers::Answer::SeqEnd => say::refused(out, at, state::types::Refusal::SeqEnd),
+        seq::numbers::Answer::Number(n) => say::form(output, b"value %\n", &[u64::from(n)]),
+        seq::numbers::Answer::Range => say::refused(output, state::types::Refusal::Range),
+        seq::numbers::Answer::SeqEnd => say::refused(output, state::types::Refusal::SeqEnd),
     }
 }
 
-pub fn on_helper(out: &mut [u8], at: usize, what: Helper) -> usize
-    ensures { spot out.new result ≡ puts (spot out.old at) (on_helper what) }
+pub fn on_helper(output: &mut Output, what: Helper)
+    ensures { output.new ≡ puts output.old (on_helper what) }
 {
     match what {
-        Helper::Zeros(a, b) => {
-            said_number(out, at, seq::numbers::max_trailing_zeros_between(a, b))
+        Helper::Zeros(a, b) => said_number(output, seq::numbers::max_trailing_zeros_between(a, b)),
+        Helper::Index(a, b) => said_number(output, seq::numbers::skiplist_index(a, b)),
+        Helper::SpanSeq(n, i) => said_number(output, seq::numbers::skiplist_seq(n, i)),
+        Helper::Seed(s) => {
+            say::form(output, b"value %\n", &[u64::from(seq::seed::seed_step(s))]);
         }
-        Helper::Index(a, b) => said_number(out, at, seq::numbers::skiplist_index(a, b)),
-        Helper::SpanSeq(n, i) => said_number(out, at, seq::numbers::skiplist_seq(n, i)),
-        Helper::Seed(s) => say::one(out, at, b"value %\n", seq::seed::seed_step(s)),
     }
 }

@@ -12,22 +12,17 @@ pub struct World {
     pub map: usize,
 }
 
-// The world after an answer, and where the answer ends.
-#[derive(Clone, Copy)]
-pub struct Turn {
-    pub world: World,
-    pub at: usize,
-}
-
-pub fn fresh(seed: u32, image: usize, map: usize) -> World
-    ensures { result ≡ fresh seed image map }
-{
-    let table = state::values::empty_table();
-    let state = state::values::new_state(seed);
-    World {
-        table,
-        state,
-        image,
-        map,
+impl World {
+    pub fn fresh(seed: u32, image: usize, map: usize) -> World
+        ensures { result ≡ fresh seed image map }
+    {
+        let table = state::values::empty_table();
+        let state = state::values::new_state(seed);
+        World {
+            table,
+            state,
+            image,
+            map,
+        }
     }
 }

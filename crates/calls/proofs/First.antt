@@ -1,5 +1,5 @@
 -- Demand 1 over all calls at once: the refusal is the first in document 01's order whose condition holds. Assumes nothing.
-use Rattle.std.specs.Prelude.{Option, Some, None, Err}
+use Rattle.std.specs.Prelude.{Ok, Option, Some, None, Err}
 use Rattle.state.specs.Refusals.{Done, fine}
 use Prim.Native.Nat.{ℕ, ◌+◌, ◌≤◌, ◌<◌}
 use mathlib.Core.Path.{◌≡◌, refl, ap, ◌∙◌}
@@ -26,8 +26,6 @@ use Rattle.seq.specs.Seq.{limit}
 use Rattle.page.specs.Page.{Bytes}
 use Rattle.seq.specs.Seed.{seed_after}
 use Rattle.reader.specs.declared.Reader.{Reader}
-use Rattle.reader.specs.declared.Located.TheVariants as L
-use Rattle.reader.specs.declared.Skipped.TheVariants as S
 use Rattle.reader.specs.Locate as RL
 use Rattle.reader.specs.Read as R
 use Rattle.reader.specs.Skip as K
@@ -91,7 +89,7 @@ first_mount w =
 first_locate : (file seq : ℕ) (w : World) → answer (locate file seq) w ≡ first (conditions (locate file seq) w)
 unfolding answer conditions RL.locate RL.locate_in
 first_locate file seq w =
-    answered located_done w w.state.transaction file L.Refused _ (λ why. refl)
+    answered located_done w w.state.transaction file Err _ (λ why. refl)
     ∙ ap (fourth w w.state.transaction (ltb 7 file))
     (go (ltb seq f.first_seq) (leb f.last_seq seq) (in_shape (count_of w) f) t.ends (length t.path))
   where
@@ -102,7 +100,7 @@ first_locate file seq w =
     t = RL.path_of w.image (count_of w) f seq
 
     go : (g e s : Bool) (x : Sought) (n : ℕ)
-        → located_done (cond g (L.Refused Gone) (cond e (L.Refused Eof) (cond s (RL.located_by n x) (L.Refused Damaged))))
+        → located_done (cond g (Err Gone) (cond e (Err Eof) (cond s (RL.located_by n x) (Err Damaged))))
         ≡ cond g (Err Gone) (cond e (Err Eof) (cond (not s || path_bad x) (Err Damaged) fine))
     go true e s x n = refl
     go false true s x n = refl
@@ -149,7 +147,7 @@ first_read r out w = read_says_lem w r out
 first_skip : (r : Reader) (n : ℕ) (w : World) → answer (skip r n) w ≡ first (conditions (skip r n) w)
 unfolding answer conditions K.skip K.skip_in K.landed
 first_skip r n w =
-    answered skipped_done w w.state.transaction r.file S.Refused _ (λ why. refl)
+    answered skipped_done w w.state.transaction r.file Err _ (λ why. refl)
     ∙ ap (fourth w w.state.transaction (ltb 7 r.file))
     (go (eqb n 0) (ltb r.seq f.first_seq) (leb f.last_seq r.seq) (ltb f.last_seq (r.seq + n)) (eqb (r.seq + n) f.last_seq) (in_shape (count_of w) f)
     (R.open_at w.image (count_of w) f (r.seq + n)))
@@ -158,8 +156,8 @@ first_skip r n w =
     f = record_at w r.file
 
     go : (z g e s l h : Bool) (x : R.Opened)
-        → skipped_done (cond z (S.To r.seq) (cond g (S.Refused Gone) (cond e (S.Refused Eof)
-        (cond s (S.Refused Short) (cond l (S.To (r.seq + n)) (cond h (K.landed_by (r.seq + n) x) (S.Refused Damaged)))))))
+        → skipped_done (cond z (Ok r.seq) (cond g (Err Gone) (cond e (Err Eof)
+        (cond s (Err Short) (cond l (Ok (r.seq + n)) (cond h (K.landed_by (r.seq + n) x) (Err Damaged)))))))
         ≡ cond (not z && g) (Err Gone) (cond (not z && e) (Err Eof) (cond (not z && s) (Err Short) (cond (not z && (not l && (not h || open_bad x))) (Err Damaged) fine)))
     go true g e s l h x = refl
     go false true e s l h x = refl
@@ -198,7 +196,7 @@ first_search file w =
     s = Q.start_of file f
 
     go : (e h : Bool)
-        → sought_done (cond e (Q.answering w (A.End f.first_seq) no_search) (cond h (Q.sought w s) (kept w (A.Refused Damaged)))).answer
+        → sought_done (cond e (Q.answering w (Ok (A.End f.first_seq)) no_search) (cond h (Q.sought w s) (kept w (Err Damaged)))).answer
         ≡ cond (not e && (not h || hunt_bad (hunted w s))) (Err Damaged) fine
     go true h = refl
     go false false = refl
@@ -214,7 +212,7 @@ first_answered w f =
     s : Stand
     s = f w.state.search
 
-    go : (a : Bool) → sought_done (cond a (Q.sought w s) (kept w (A.Refused NoSearch))).answer
+    go : (a : Bool) → sought_done (cond a (Q.sought w s) (kept w (Err NoSearch))).answer
         ≡ cond (a && false) (Err SeqEnd) (cond (a && false) (Err NoRoom) (cond (not a) (Err NoSearch) (cond (a && hunt_bad (hunted w s)) (Err Damaged) fine)))
     go true = first_hunt w s
     go false = refl

@@ -237,30 +237,30 @@ module _ (w : World) where
       go : (x : H.Sought) → Keeps sought_done w (Q.sought_by w s x)
       go (H.offered l o) = keeps_fine sought_done w (Q.sought_by w s (H.offered l o)) refl
       go H.ended = keeps_fine sought_done w (Q.sought_by w s H.ended) refl
-      go H.broken = keeps_kept sought_done w (A.Refused Damaged)
+      go H.broken = keeps_kept sought_done w (Err Damaged)
 
   start_keeps : (i : ℕ) → Keeps sought_done w (Q.start w i)
   unfolding Q.start Q.start_in
-  start_keeps i = keeps_checked sought_done w w.state.transaction i A.Refused {x = Q.start_in w i f} (go (is_empty f) (in_shape w.state.page_count f))
+  start_keeps i = keeps_checked sought_done w w.state.transaction i Err {x = Q.start_in w i f} (go (is_empty f) (in_shape w.state.page_count f))
     where
       f : FileRecord
       f = file_at w.table i
 
-      go : (e h : Bool) → Keeps sought_done w (cond e (Q.answering w (A.End f.first_seq) no_search) (cond h (Q.sought w (Q.start_of i f)) (kept w (A.Refused Damaged))))
-      go true h = keeps_fine sought_done w (Q.answering w (A.End f.first_seq) no_search) refl
+      go : (e h : Bool) → Keeps sought_done w (cond e (Q.answering w (Ok (A.End f.first_seq)) no_search) (cond h (Q.sought w (Q.start_of i f)) (kept w (Err Damaged))))
+      go true h = keeps_fine sought_done w (Q.answering w (Ok (A.End f.first_seq)) no_search) refl
       go false true = sought_keeps (Q.start_of i f)
-      go false false = keeps_kept sought_done w (A.Refused Damaged)
+      go false false = keeps_kept sought_done w (Err Damaged)
 
   answered_keeps : (f : Search → Stand) → Keeps sought_done w (Q.answered w f)
   unfolding Q.answered
-  answered_keeps f = keeps_checked sought_done w w.state.transaction 0 A.Refused {x = cond w.state.search.active (Q.sought w s) (kept w (A.Refused NoSearch))} (go w.state.search.active)
+  answered_keeps f = keeps_checked sought_done w w.state.transaction 0 Err {x = cond w.state.search.active (Q.sought w s) (kept w (Err NoSearch))} (go w.state.search.active)
     where
       s : Stand
       s = f w.state.search
 
-      go : (a : Bool) → Keeps sought_done w (cond a (Q.sought w s) (kept w (A.Refused NoSearch)))
+      go : (a : Bool) → Keeps sought_done w (cond a (Q.sought w s) (kept w (Err NoSearch)))
       go true = sought_keeps s
-      go false = keeps_kept sought_done w (A.Refused NoSearch)
+      go false = keeps_kept sought_done w (Err NoSearch)
 
 -- ---- all at once
 

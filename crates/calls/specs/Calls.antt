@@ -10,9 +10,6 @@ use Rattle.volume.specs.Format as VolumeFormat
 use Rattle.volume.specs.Mount as VolumeMount
 use Rattle.reader.specs.declared.Reader.{Reader}
 use Rattle.reader.specs.declared.Located.{Located}
-use Rattle.reader.specs.declared.Located.TheVariants.{At}
-use Rattle.reader.specs.declared.Located.TheVariants as L
-use Rattle.reader.specs.declared.Skipped.TheVariants as S
 use Rattle.reader.specs.Locate as ReaderLocate
 use Rattle.reader.specs.Read as ReaderRead
 use Rattle.reader.specs.Skip as ReaderSkip
@@ -24,7 +21,6 @@ use Rattle.transact.specs.Rename as TransactRename
 use Rattle.transact.specs.Commit as TransactCommit
 use Rattle.search.specs.declared.Answer.{Answer}
 use Rattle.search.specs.declared.Answer.TheVariants.{Offer as Offers, End}
-use Rattle.search.specs.declared.Answer.TheVariants as A
 use Rattle.search.specs.Search as SearchCalls
 
 -- a call with its arguments: bytes and flags are bytes, any other number is any; of a read, the output that is lent, with what stands in it
@@ -71,18 +67,18 @@ step commit w = (after_call TransactCommit.commit w).world
 
 -- ---- what a call answers: done, or its refusal
 
-abbrev pub located_done : Located → Done
-located_done (At p n) = fine
-located_done (L.Refused why) = Err why
+abbrev pub located_done : Result Located Refusal → Done
+located_done (Ok l) = fine
+located_done (Err why) = Err why
 
 abbrev pub skipped_done : Result ℕ Refusal → Done
 skipped_done (Ok n) = fine
-skipped_done (S.Refused why) = Err why
+skipped_done (Err why) = Err why
 
-abbrev pub sought_done : Answer → Done
-sought_done (Offers n) = fine
-sought_done (End n) = fine
-sought_done (A.Refused why) = Err why
+abbrev pub sought_done : Result Answer Refusal → Done
+sought_done (Ok (Offers n)) = fine
+sought_done (Ok (End n)) = fine
+sought_done (Err why) = Err why
 
 unfoldable pub answer : Call → World → Done
 answer format w = (VolumeFormat.format w).answer

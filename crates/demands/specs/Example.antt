@@ -9,7 +9,7 @@ use Rattle.state.specs.declared.types.FileRecord.{FileRecord}
 use Rattle.state.specs.Checks.{is_mounted}
 use Rattle.state.specs.Values.{file_at, empty_table, unmounted}
 use Rattle.state.specs.World.{World, after_call}
-use Rattle.reader.specs.declared.Located.TheVariants.{At}
+use Rattle.reader.specs.Locate.{located_at}
 use Rattle.reader.specs.declared.Reader.{Reader}
 use Rattle.calls.specs.Calls as calls
 use Rattle.calls.specs.Calls.{step, powered, FromEither, FromFormat, Formatted}
@@ -113,7 +113,7 @@ idle : committed.state.transaction ≡ false
 unfolding computing
 idle = refl
 
-located : ReaderLocate.locate committed 0 5 ≡ At 4 1
+located : ReaderLocate.locate committed 0 5 ≡ located_at 4 1
 unfolding computing
 located = refl
 

@@ -17,10 +17,10 @@ ghost use Rattle.writer.specs.Finish.{finish, discard};
 ghost use Rattle.transact.specs.Truncate.{truncate};
 ghost use Rattle.transact.specs.Rename.{rename, flags as changed_by};
 ghost use Rattle.transact.specs.Commit.{commit};
-ghost use Rattle.export.specs.Replies.{Replied, ReadReplied, SearchReplied, SoughtReplied, located_reply, skipped_reply};
+ghost use Rattle.export.specs.Replies.{Replied, ReadReplied, SearchReplied, located_reply, skipped_reply};
 
 use reader::Reader;
-use replies::{LocateReply, Reply, SearchParts, SearchReply, SeqReply};
+use replies::{LocateReply, Reply, SearchReply, SeqReply, code_of};
 use state::types::{State, Table};
 
 mod replies;
@@ -43,18 +43,28 @@ pub extern "C" fn mv_empty_table() -> Table
 
 // Empties the image and mounts it.
 #[unsafe(no_mangle)]
-pub extern "C" fn mv_format(image: &mut [u8], map: &mut [u8], table: Table, state: State) -> Reply
+pub extern "C" fn mv_format(image: &mut [u8], map: &mut [u8], mut table: Table, mut state: State) -> Reply
     ensures { Replied result image.new map.new (after_call format (before image.old map.old table state)) }
 {
-    replies::reply_of(volume::format(image, map, table, state))
+    let answer = volume::format(image, map, &mut table, &mut state);
+    Reply {
+        code: code_of(&answer),
+        table,
+        state,
+    }
 }
 
 // Mounts an image as it is.
 #[unsafe(no_mangle)]
-pub extern "C" fn mv_mount(image: &[u8], map: &mut [u8], table: Table, state: State) -> Reply
+pub extern "C" fn mv_mount(image: &[u8], map: &mut [u8], mut table: Table, mut state: State) -> Reply
     ensures { Replied result image.now map.new (after_call mount (before image.now map.old table state)) }
 {
-    replies::reply_of(volume::mount(image, map, table, state))
+    let answer = volume::mount(image, map, &mut table, &mut state);
+    Reply {
+        code: code_of(&answer),
+        table,
+        state,
+    }
 }
 
 // The page of a number.
@@ -69,7 +79,7 @@ pub extern "C" fn mv_locate(
 ) -> LocateReply
     ensures { result ≡ located_reply (locate (before image.now map.now table state) file seq) }
 {
-    replies::located(reader::locate(image, map, table, state, file, seq))
+    reader::locate(image, map, &table, &state, file, seq).into()
 }
 
 // Fills out with the bytes from a number on.
@@ -85,7 +95,12 @@ pub extern "C" fn mv_read(
 ) -> SeqReply
     ensures { ReadReplied result out.new (read (before image.now map.now table state) (record { file = file; seq = seq }) out.old) }
 {
-    replies::read_reply(reader::read(image, map, table, state, Reader { file, seq }, out))
+    let mut reader = Reader { file, seq };
+    let answer = reader::read(image, map, &table, &state, &mut reader, out);
+    SeqReply {
+        code: code_of(&answer),
+        seq: reader.seq,
+    }
 }
 
 // The number len bytes behind seq; seq itself where refused.
@@ -101,10 +116,8 @@ pub extern "C" fn mv_skip(
 ) -> SeqReply
     ensures { result ≡ skipped_reply seq (skip (before image.now map.now table state) (record { file = file; seq = seq }) len) }
 {
-    replies::skipped(
-        reader::skip(image, map, table, state, Reader { file, seq }, len),
-        seq,
-    )
+    let to = reader::skip(image, map, &table, &state, Reader { file, seq }, len);
+    replies::skipped(to, seq)
 }
 
 // The number offs bytes behind the file's first one; where refused, where a new reader stands.
@@ -119,8 +132,8 @@ pub extern "C" fn mv_seek(
 ) -> SeqReply
     ensures { result ≡ skipped_reply (reader_at table file).seq (seek_offset (before image.now map.now table state) file offs) }
 {
-    let new = reader::ask::reader_of(table, file);
-    replies::skipped(reader::seek(image, map, table, state, file, offs), new.seq)
+    let new = reader::ask::reader_of(&table, file);
+    replies::skipped(reader::seek(image, map, &table, &state, file, offs), new.seq)
 }
 
 // Starts a search for a record of a file. The state is the caller's and is changed in place, as in the next call.
@@ -134,9 +147,7 @@ pub extern "C" fn mv_search(
 ) -> SearchReply
     ensures { SearchReplied result image.now map.now table state.new (after_call (λ w. start w file) (before image.now map.now table state.old)) }
 {
-    let out = searched(image, map, table, *state, file);
-    state.search = replies::search_in(out);
-    replies::reply_in(out)
+    search::search::search(image, map, &table, state, file).into()
 }
 
 // Answers the position on offer: what is searched lies left of it, or there or right of it.
@@ -149,22 +160,7 @@ pub extern "C" fn mv_turn(
 ) -> SearchReply
     ensures { ((t : Table) → SearchReplied result image.now map.now t state.new (after_call (turn to_right) (before image.now map.now t state.old))) }
 {
-    let out = turned(image, map, *state, to_right);
-    state.search = replies::search_in(out);
-    replies::reply_in(out)
-}
-
-// The two by value.
-fn searched(image: &[u8], map: &[u8], table: Table, state: State, file: u8) -> SearchParts
-    ensures { SoughtReplied result image.now map.now table state (after_call (λ w. start w file) (before image.now map.now table state)) }
-{
-    replies::sought(search::search::search(image, map, table, state, file))
-}
-
-fn turned(image: &[u8], map: &[u8], state: State, to_right: bool) -> SearchParts
-    ensures { ((t : Table) → SoughtReplied result image.now map.now t state (after_call (turn to_right) (before image.now map.now t state))) }
-{
-    replies::sought(search::search::turn(image, map, state, to_right))
+    search::search::turn(image, map, state, to_right).into()
 }
 
 // Opens a writer at a file's end.
@@ -173,12 +169,17 @@ pub extern "C" fn mv_open(
     image: &[u8],
     map: &mut [u8],
     table: Table,
-    state: State,
+    mut state: State,
     file: u8,
 ) -> Reply
     ensures { Replied result image.now map.new (after_call (λ w. open_writer w file) (before image.now map.old table state)) }
 {
-    replies::reply_of(writer::open::open(image, map, table, state, file))
+    let answer = writer::open::open(image, map, &table, &mut state, file);
+    Reply {
+        code: code_of(&answer),
+        table,
+        state,
+    }
 }
 
 // Writes all bytes or none.
@@ -187,36 +188,56 @@ pub extern "C" fn mv_write(
     image: &mut [u8],
     map: &mut [u8],
     table: Table,
-    state: State,
+    mut state: State,
     bytes: &[u8],
 ) -> Reply
     ensures { Replied result image.new map.new (after_call (λ w. write w bytes.now) (before image.old map.old table state)) }
 {
-    replies::reply_of(writer::write::write(image, map, table, state, bytes))
+    let answer = writer::write::write(image, map, &table, &mut state, bytes);
+    Reply {
+        code: code_of(&answer),
+        table,
+        state,
+    }
 }
 
 // Ends a record at the writer's place.
 #[unsafe(no_mangle)]
-pub extern "C" fn mv_record_end(image: &[u8], map: &[u8], table: Table, state: State) -> Reply
+pub extern "C" fn mv_record_end(image: &[u8], map: &[u8], table: Table, mut state: State) -> Reply
     ensures { Replied result image.now map.now (after_call record_end (before image.now map.now table state)) }
 {
-    replies::reply_of(writer::write::record_end(image, map, table, state))
+    let answer = writer::write::record_end(image, map, &table, &mut state);
+    Reply {
+        code: code_of(&answer),
+        table,
+        state,
+    }
 }
 
 // Stores what is staged and closes the writer.
 #[unsafe(no_mangle)]
-pub extern "C" fn mv_finish(image: &mut [u8], map: &mut [u8], table: Table, state: State) -> Reply
+pub extern "C" fn mv_finish(image: &mut [u8], map: &mut [u8], mut table: Table, mut state: State) -> Reply
     ensures { Replied result image.new map.new (after_call finish (before image.old map.old table state)) }
 {
-    replies::reply_of(writer::finish::finish(image, map, table, state))
+    let answer = writer::finish::finish(image, map, &mut table, &mut state);
+    Reply {
+        code: code_of(&answer),
+        table,
+        state,
+    }
 }
 
 // Closes the writer and gives its pages back.
 #[unsafe(no_mangle)]
-pub extern "C" fn mv_discard(image: &[u8], map: &mut [u8], table: Table, state: State) -> Reply
+pub extern "C" fn mv_discard(image: &[u8], map: &mut [u8], table: Table, mut state: State) -> Reply
     ensures { Replied result image.now map.new (after_call discard (before image.now map.old table state)) }
 {
-    replies::reply_of(writer::finish::discard(image, map, table, state))
+    let answer = writer::finish::discard(image, map, &table, &mut state);
+    Reply {
+        code: code_of(&answer),
+        table,
+        state,
+    }
 }
 
 // Takes bytes off a file's start.
@@ -224,14 +245,19 @@ pub extern "C" fn mv_discard(image: &[u8], map: &mut [u8], table: Table, state: 
 pub extern "C" fn mv_truncate(
     image: &[u8],
     map: &mut [u8],
-    table: Table,
-    state: State,
+    mut table: Table,
+    mut state: State,
     file: u8,
     bytes: usize,
 ) -> Reply
     ensures { Replied result image.now map.new (after_call (λ w. truncate w file bytes) (before image.now map.old table state)) }
 {
-    replies::reply_of(transact::truncate::truncate(image, map, table, state, file, bytes))
+    let answer = transact::truncate::truncate(image, map, &mut table, &mut state, file, bytes);
+    Reply {
+        code: code_of(&answer),
+        table,
+        state,
+    }
 }
 
 // Swaps two files.
@@ -239,14 +265,19 @@ pub extern "C" fn mv_truncate(
 pub extern "C" fn mv_rename(
     image: &[u8],
     map: &[u8],
-    table: Table,
-    state: State,
+    mut table: Table,
+    mut state: State,
     from: u8,
     to: u8,
 ) -> Reply
     ensures { Replied result image.now map.now (after_call (λ w. rename w from to) (before image.now map.now table state)) }
 {
-    replies::reply_of(transact::rename::rename(image, map, table, state, from, to))
+    let answer = transact::rename::rename(image, map, &mut table, &mut state, from, to);
+    Reply {
+        code: code_of(&answer),
+        table,
+        state,
+    }
 }
 
 // Sets a file's flags.
@@ -254,22 +285,32 @@ pub extern "C" fn mv_rename(
 pub extern "C" fn mv_flags(
     image: &[u8],
     map: &[u8],
-    table: Table,
-    state: State,
+    mut table: Table,
+    mut state: State,
     file: u8,
     flags: u8,
 ) -> Reply
     ensures { Replied result image.now map.now (after_call (λ w. changed_by w file flags) (before image.now map.now table state)) }
 {
-    replies::reply_of(transact::flags::changed(image, map, table, state, file, flags))
+    let answer = transact::flags::change_flags(image, map, &mut table, &mut state, file, flags);
+    Reply {
+        code: code_of(&answer),
+        table,
+        state,
+    }
 }
 
 // Makes all changes since the last commit last.
 #[unsafe(no_mangle)]
-pub extern "C" fn mv_commit(image: &mut [u8], map: &mut [u8], table: Table, state: State) -> Reply
+pub extern "C" fn mv_commit(image: &mut [u8], map: &mut [u8], table: Table, mut state: State) -> Reply
     ensures { Replied result image.new map.new (after_call commit (before image.old map.old table state)) }
 {
-    replies::reply_of(transact::commit::commit(image, map, table, state))
+    let answer = transact::commit::commit(image, map, &table, &mut state);
+    Reply {
+        code: code_of(&answer),
+        table,
+        state,
+    }
 }
 
 // How many pages are free.
@@ -277,7 +318,7 @@ pub extern "C" fn mv_commit(image: &mut [u8], map: &mut [u8], table: Table, stat
 pub extern "C" fn mv_free_pages(map: &[u8], state: State) -> usize
     ensures { result ≡ free_pages map.now state }
 {
-    reader::ask::free_pages(map, state)
+    reader::ask::free_pages(map, &state)
 }
 
 // How many pages are not free.
@@ -285,5 +326,5 @@ pub extern "C" fn mv_free_pages(map: &[u8], state: State) -> usize
 pub extern "C" fn mv_used_pages(map: &[u8], state: State) -> usize
     ensures { result ≡ used_pages map.now state }
 {
-    reader::ask::used_pages(map, state)
+    reader::ask::used_pages(map, &state)
 }

@@ -4,31 +4,43 @@
 ghost use Rattle.std.specs.Prelude.{◌≤◌, length, IfOk};
 
 use inventory::FileLine;
+use state::types::Refusal;
 use std::io;
 use std::io::Read;
 
-// One file's line, or nothing where the file is empty.
-fn print_line(rt: &impl Print, id: usize, line: Option<FileLine>) -> io::Result<()> {
-    let Some(line) = line else {
-        return Ok(());
-    };
-    let first = line.first;
-    let last = line.last;
-    let flags = line.flags;
-    let pages = line.pages;
+fn print_line(rt: &impl Print, id: usize, line: &FileLine) -> io::Result<()> {
+    let FileLine {
+        first,
+        last,
+        flags,
+        pages,
+    } = *line;
     println!(rt; "file {id} first {first} last {last} flags {flags} pages {pages}")
 }
 
+// An empty file has no line.
 fn print_files(rt: &impl Print, lines: [Option<FileLine>; 8]) -> io::Result<()> {
     let count = lines.iter().filter(|line| line.is_some()).count();
     println!(rt; "files {count}")?;
     for (id, line) in lines.iter().enumerate() {
-        print_line(rt, id, *line)?;
+        if let Some(line) = line {
+            print_line(rt, id, line)?;
+        }
     }
     Ok(())
 }
 
-// Fills buf as far as the input goes, and answers how many bytes came.
+fn print_inventory(rt: &impl Print, inventory: Result<[Option<FileLine>; 8], Refusal>) -> io::Result<()> {
+    match inventory {
+        Ok(lines) => print_files(rt, lines),
+        Err(why) => {
+            let refused = u8::from(why);
+            println!(rt; "refused {refused}")
+        }
+    }
+}
+
+// Fills buf as far as the input goes, and answers how many bytes came. `read_to_end` would allocate, and read on after an interruption.
 fn read_full<R: Read>(input: &mut R, buf: &mut [u8]) -> io::Result<usize>
     ensures { IfOk result (λ n. n ≤ length buf.new) }
 {
@@ -68,11 +80,5 @@ fn main(rt: HostRuntime) -> io::Result<()> {
     if n == 65537 {
         drain(&mut input)?;
     }
-    match inventory::list_image(&image[..n]) {
-        Ok(lines) => print_files(&rt, lines),
-        Err(why) => {
-            let refused = u8::from(why);
-            println!(rt; "refused {refused}")
-        }
-    }
+    print_inventory(&rt, inventory::list_image(&image[..n]))
 }

@@ -166,7 +166,8 @@ taken_good r f h = by r.ok h
     by true h = let e : r.files ≡ f = cc in rw e
     by false h = let z : ◌≡◌ {A = ℕ} 0 1 = cc in absurd (omega arith)
 
-taken_not : (r : Replay) → taken r ≡ None → r.ok ≡ false
+-- and a replay of which it takes none is not good
+pub taken_not : (r : Replay) → taken r ≡ None → r.ok ≡ false
 taken_not r h = by r.ok h
   where
     by : (b : Bool) → cond b (Some r.files) None ≡ None → b ≡ false

@@ -137,6 +137,7 @@ abbrev pub adds : ℕ → Replay → List Entry → Replay
 adds count r [] = r
 adds count r (e ∷ es) = adds count (add count r e) es
 
+-- a replay that is good so far
 abbrev pub good : Files → Replay
 good f = record { ok = true; files = f }
 

@@ -31,8 +31,8 @@ pub struct Entry {
     pub first: u32,
 }
 
-// What stands at a place of the log: its end, a batch of so many entries, or neither. Three cases of one rank: in a
-// Result<Option<usize>, _> the end would be a batch that is missing, and no reader of it would use `?`.
+// What stands at a place of the log: its end, a batch of so many entries, or neither. A Result<Option<usize>, _> would be
+// no plainer: its one reader matches all three, and gives the case that `?` would hand on as an item.
 #[derive(Clone, Copy)]
 enum Batch {
     End,
@@ -184,7 +184,7 @@ impl Files {
 fn pair_good(n: u16, m: u16) -> bool
     ensures { result ≡ good_pair n m }
 {
-    m == 65535 - n && 1 <= n && n <= 8
+    m == !n && (1..=8).contains(&n)
 }
 
 #[tactic(auto, unfolding(crate::specs::Log::batch_at, crate::specs::Log::batch_of))]
@@ -268,7 +268,7 @@ fn pair_bytes(n: u16) -> [u8; 4]
     ensures { result ≡ pair_bytes n }
 {
     let [n0, n1] = n.to_le_bytes();
-    let [m0, m1] = (65535 - n).to_le_bytes();
+    let [m0, m1] = (!n).to_le_bytes();
     [n0, n1, m0, m1]
 }
 

@@ -4,7 +4,7 @@ use mathlib.Core.Path.{◌≡◌, refl, sym, ap, ◌∙◌}
 use mathlib.Core.Bool.{Bool, true, false}
 use native.Mathlib.Omega.{arith}
 use native.Mathlib.Decide.{ℕ_discrete}
-use Rattle.metalog.specs.declared.Replay.{Replay}
+use Rattle.metalog.specs.Log.{Replay}
 use Rattle.owners.specs.Moves.{Change, give, release, release_all, moved_to, new_base, settled}
 use Rattle.owners.specs.State.{val_in, val_of, Best, Owners, Base, Mounted, shut, Now, WriterOk, Inv}
 use Rattle.owners.specs.Store.{Page, met, Store, pick, Owner, free, held, meta, writer, outside, file}

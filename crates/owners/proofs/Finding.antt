@@ -6,7 +6,7 @@ use mathlib.Core.Logic.{◌⊎◌, inl, inr}
 use mathlib.Core.List.{List, []}
 use native.Mathlib.Omega.{arith}
 use native.Mathlib.Decide.{ℕ_discrete, dec_le}
-use Rattle.metalog.specs.declared.Replay.{Replay}
+use Rattle.metalog.specs.Log.{Replay}
 use Rattle.owners.specs.Moves.{mem_nil, mem?, assign, start_own, set_f}
 use Rattle.owners.specs.State.{Val, none, val_in, val_of, Best, Owners, Base, Mounted}
 use Rattle.owners.specs.Store.{met, Store, pick, File, gone, Owner, free, held, meta, writer, outside, file, Mem, FileOk, empty, full, FileAt}

@@ -3,7 +3,7 @@ use Rattle.std.specs.Prelude.{ℕ, ◌+◌, ◌≤◌, ◌<◌, ◌≡◌, Bool,
 use Rattle.std.proofs.Math.Decide.{ℕ_discrete, dec_le}
 use Rattle.seq.specs.Ids as ids
 use Rattle.metalog.specs.declared.Files.{Files}
-use Rattle.metalog.specs.declared.Replay.{Replay}
+use Rattle.metalog.specs.Log.{Replay}
 use Rattle.owners.specs.Store.{Link, nil, to, dat, met, Store, pick, Owner, free, held, meta, writer, outside, file, Mem, Walk, File, gone, live, FileAt, Len, limit}
 
 -- 65535 is none

@@ -1,7 +1,7 @@
 -- The store of pages: what mount can see of an image, page by page, and whose each page is. A device of the proofs: no reader has to
 -- believe it. Assumes nothing: these are definitions.
 use Rattle.std.specs.Prelude.{ℕ, ◌+◌, ◌≤◌, ◌<◌, ◌≡◌, List, [], ◌∷◌}
-use Rattle.metalog.specs.declared.Replay.{Replay}
+use Rattle.metalog.specs.Log.{Replay}
 
 -- a link: none, or to a page
 pub data Link : Type 0 where

@@ -3,7 +3,7 @@
 use Prim.Native.Nat.{ℕ, zero, suc, ◌+◌, ◌-◌, ◌*◌, ◌/◌, ◌%◌, ◌≤◌, ◌<◌}
 use mathlib.Core.Path.{◌≡◌, refl, sym, ap, ◌∙◌, subst}
 use mathlib.Core.List.{List, [], ◌∷◌, ◌++◌}
-use mathlib.Core.Bool.{Bool, true, false, ◌&&◌, and-false, and-eq-true_iff}
+use mathlib.Core.Bool.{true, false, ◌&&◌, and-false, and-eq-true_iff}
 use native.Mathlib.Omega.{arith}
 use native.Mathlib.Nat.{not-suc-le-zero, le_of_suc-le-suc}
 use native.Mathlib.Numerals.{add-one}
@@ -41,7 +41,7 @@ module _ (pg : List ℕ) where
   unfolding begins
   begins_not m n = rw (ne_eqb _ _ n, and-false)
 
-  -- each test of a header: both hold, or one of them does not
+  -- both tests of a header hold, or the first does not
   pub header_reads : begins pg data_magic ≡ true → pair_reads pg ≡ true → header_of pg ≡ readable (fields_of pg)
   unfolding header_of
   header_reads b q = rw (b, q)
@@ -49,20 +49,6 @@ module _ (pg : List ℕ) where
   pub header_begins : begins pg data_magic ≡ false → header_of pg ≡ unreadable
   unfolding header_of
   header_begins b = rw b
-
-  pub header_pair : pair_reads pg ≡ false → header_of pg ≡ unreadable
-  unfolding header_of
-  header_pair q = rw (q, and-false)
-
-  -- the same two tests in one, and what a step back asks
-  pub back_reads : (a b : Bool) → a ≡ begins pg data_magic → b ≡ pair_reads pg → a && b ≡ true
-      → gives_back (header_of pg) ≡ Some (record { seq = le32 pg 4; link = le16 pg 8 })
-  unfolding header_of gives_back fields_of
-  back_reads a b p q t = rw (← p, ← q, t)
-
-  pub back_missing : (a b : Bool) → a ≡ begins pg data_magic → b ≡ pair_reads pg → a && b ≡ false → header_of pg ≡ unreadable
-  unfolding header_of
-  back_missing a b p q t = rw (← p, ← q, t)
 
   -- the one test of a metadata header
   pub meta_reads : begins pg meta_magic ≡ true → meta_of pg ≡ Some (record { page_count = le32 pg 4; seq = le32 pg 8 })
@@ -266,15 +252,15 @@ pairs_more (x ∷ l) z (suc i) h =
     rw e (ap (by16 x) (pairs_more l z i (le_of_suc-le-suc h)))
 
 -- as a loop over nine of them writes it
-pub links_more : (l : List ℕ) (i : ℕ) → length l ≡ 9 → i < 9
+pub pairs_step : (l : List ℕ) (i : ℕ) → length l ≡ 9 → i < 9
     → put_mid (2 * i) 2 (pairs (take i l) ++ replicate (18 - 2 * i) 0) (by16 (get_or l i 0) []) ≡ pairs (take (i + 1) l) ++ replicate (18 - 2 * (i + 1)) 0
-links_more l i n h =
+pairs_step l i n h =
     let e : 18 - 2 * i ≡ suc (suc (18 - 2 * (i + 1))) = omega arith in
     rw (e, add-one) (pairs_more l (replicate (18 - 2 * suc i) 0) i (omega arith))
 
 -- all nine, each by its place
-pub links_nine : (l : List ℕ) → length l ≡ 9 → pairs l ≡ pairs (tab (λ i. get_or l i 0) 0 9)
-links_nine l n = ap pairs (sym (tab_drop l 0 9 (sym n)))
+pub pairs_nine : (l : List ℕ) → length l ≡ 9 → pairs l ≡ pairs (tab (λ i. get_or l i 0) 0 9)
+pairs_nine l n = ap pairs (sym (tab_drop l 0 9 (sym n)))
 
 -- ---- a header's bytes read back
 

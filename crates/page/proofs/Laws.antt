@@ -5,12 +5,12 @@ use mathlib.Core.Path.{◌≡◌, refl, sym, ap, ◌∙◌}
 use mathlib.Core.List.{List, [], ◌∷◌, ◌++◌}
 use mathlib.Core.Bool.{and-false}
 use native.Mathlib.Decide.{dec_le, ℕ_discrete}
-use native.Mathlib.Nat.{lt_of_not-le, not-suc-le-zero, le_of_suc-le-suc}
+use native.Mathlib.Nat.{lt_of_not-le, not-suc-le-zero}
 use native.Mathlib.Omega.{arith}
 use lib.ListN.{length, take, drop, get_or, replicate}
 use lib.Seq.{take-take, drop-drop}
 use borrow.Rule.Slice.PartMut.{put_mid}
-use Rattle.std.proofs.lemmas.List.{take-append-drop}
+use Rattle.std.proofs.lemmas.List.{take-append-drop, take-replicate}
 use borrow.Author.Tests.{lt-ltb, le-ltb, le-leb, lt-leb}
 use Rattle.runs.specs.Runs.{part, part_of, splice, placed}
 use Rattle.runs.proofs.Laws.{length_splice, take_splice, drop_splice, length_part, placed_in, placed_out, part_before, part_after, part_inside, part_of_in, splice_all, drop_replicate}
@@ -200,9 +200,7 @@ Behind n (program p off run) = n ≤ off
 
 -- the first of equal bytes
 pub take_replicate : (m n v : ℕ) → m ≤ n → take m (replicate n v) ≡ replicate m v
-take_replicate zero n v h = refl
-take_replicate (suc m) zero v h = absurd (not-suc-le-zero h)
-take_replicate (suc m) (suc n) v h = ap (λ (l : List ℕ). v ∷ l) (take_replicate m n v (le_of_suc-le-suc h))
+take_replicate = take-replicate
 
 -- fewer bytes
 pub front_less : (m n : ℕ) (pg : List ℕ) → m ≤ n → Front n pg → Front m pg

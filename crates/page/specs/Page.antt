@@ -1,6 +1,6 @@
 -- The pages of an image and what stands on them, by document 01, "Numbers" and "Layout".
 -- Assumes nothing.
-use Rattle.std.specs.Prelude.{ℕ, zero, suc, ◌+◌, ◌-◌, ◌*◌, ◌/◌, ◌≤◌, ◌<◌, ◌≡◌, List, [], ◌∷◌, Bool, Option, Some, None, cond, ◌&&◌, length, get_or, leb, ltb, eqb, replicate}
+use Rattle.std.specs.Prelude.{ℕ, zero, suc, ◌+◌, ◌-◌, ◌*◌, ◌/◌, ◌≤◌, ◌<◌, ◌≡◌, List, [], ◌∷◌, Bool, Option, Some, None, cond, ◌&&◌, length, get_or, replicate, leb, ltb, eqb}
 use Rattle.runs.specs.Runs.{part, le16, le32, by16, by32}
 use Rattle.page.specs.declared.DataHeader.{DataHeader}
 use Rattle.page.specs.declared.BackRead.{BackRead}
@@ -45,7 +45,7 @@ pub data Read : Type 0 where
 unfoldable pub header_of : List ℕ → Read
 header_of pg = cond (begins pg data_magic && pair_reads pg) (readable (fields_of pg)) unreadable
 
--- the header of no page
+-- the header of no page, all 0
 abbrev pub no_header : DataHeader
 no_header = record { seq = 0; skiplist = replicate 9 0; record_boundary = 0; length = 0 }
 

@@ -16,6 +16,8 @@ pub const HEADER_SIZE: usize = 32;
 
 pub const PAYLOAD_SIZE: usize = PAGE_SIZE - HEADER_SIZE;
 
+const META_SIZE: usize = 12;
+
 const DATA_MAGIC: u32 = 0x7fcb_f35d;
 
 const META_MAGIC: u32 = 0x1d81_bcde;
@@ -73,7 +75,7 @@ fn pair_reads(pg: &[u8]) -> bool
     ensures { result ≡ pair_reads pg.now }
 {
     let n = runs::u16_at(pg, 28);
-    runs::u16_at(pg, 30) == u16::MAX - n && (1..=224).contains(&n)
+    runs::u16_at(pg, 30) == u16::MAX - n && (1..=PAYLOAD_SIZE as u16).contains(&n)
 }
 
 fn links_of(pg: &[u8]) -> [u16; 9]
@@ -94,45 +96,87 @@ fn fields_of(pg: &[u8]) -> DataHeader
     }
 }
 
-// The header of a data page's bytes.
-#[tactic(auto, unfolding(crate::specs::Page::header_of, crate::specs::Page::gives))]
-fn header_of(pg: &[u8]) -> Option<DataHeader>
-    ensures { result ≡ gives (header_of pg.now) }
+// The bytes of nine links, each two of them.
+fn links_bytes(links: [u16; 9]) -> [u8; 18]
+    ensures { result ≡ pairs links }
 {
-    if begins(pg, DATA_MAGIC) && pair_reads(pg) {
-        Some(fields_of(pg))
-    } else {
-        None
+    let mut bytes = [0; 18];
+    for (i, link) in links.iter().enumerate() {
+        bytes[2 * i..2 * i + 2].copy_from_slice(&link.to_le_bytes());
+    }
+    bytes
+}
+
+// ---- the headers of the two kinds of page
+
+impl DataHeader {
+    // Of a page's bytes: the magic matches, the pair agrees, and the payload fits the page.
+    #[tactic(auto, unfolding(crate::specs::Page::header_of, crate::specs::Page::gives))]
+    fn from_page(pg: &[u8]) -> Option<DataHeader>
+        ensures { result ≡ gives (header_of pg.now) }
+    {
+        if begins(pg, DATA_MAGIC) && pair_reads(pg) {
+            Some(fields_of(pg))
+        } else {
+            None
+        }
+    }
+
+    #[tactic(auto, unfolding(crate::specs::Page::header_bytes))]
+    fn to_bytes(self) -> [u8; HEADER_SIZE]
+        ensures { result ≡ header_bytes self }
+    {
+        let mut bytes = [0; HEADER_SIZE];
+        bytes[..4].copy_from_slice(&DATA_MAGIC.to_le_bytes());
+        bytes[4..8].copy_from_slice(&self.seq.to_le_bytes());
+        bytes[8..26].copy_from_slice(&links_bytes(self.skiplist));
+        bytes[26..28].copy_from_slice(&self.record_boundary.to_le_bytes());
+        bytes[28..30].copy_from_slice(&self.length.to_le_bytes());
+        bytes[30..].copy_from_slice(&(u16::MAX - self.length).to_le_bytes());
+        bytes
     }
 }
 
-// Of the same header, what a step back asks: a walk of many pages copies no headers.
-#[tactic(auto, unfolding(crate::specs::Page::header_of, crate::specs::Page::gives_back, crate::specs::Page::fields_of))]
-fn back_of(pg: &[u8]) -> Option<BackRead>
-    ensures { result ≡ gives_back (header_of pg.now) }
-{
-    if begins(pg, DATA_MAGIC) && pair_reads(pg) {
+impl BackRead {
+    // Of the same header, what a step back asks: a walk of many pages copies no headers.
+    #[tactic(auto, using(crate::proofs::Headers::given_none), unfolding(crate::specs::Page::gives_back))]
+    fn from_page(pg: &[u8]) -> Option<BackRead>
+        ensures { result ≡ gives_back (header_of pg.now) }
+    {
+        let h = DataHeader::from_page(pg)?;
         Some(BackRead {
-            seq: runs::u32_at(pg, 4),
-            link: runs::u16_at(pg, 8),
+            seq: h.seq,
+            link: h.skiplist[0],
         })
-    } else {
-        None
     }
 }
 
-// The header of a metadata page's bytes.
-#[tactic(auto, unfolding(crate::specs::Page::meta_of))]
-fn meta_of(pg: &[u8]) -> Option<MetaHeader>
-    ensures { result ≡ meta_of pg.now }
-{
-    if begins(pg, META_MAGIC) {
-        Some(MetaHeader {
-            page_count: runs::u32_at(pg, 4),
-            seq: runs::u32_at(pg, 8),
-        })
-    } else {
-        None
+// The two kinds of header share no more than `begins`: other fields, other sizes, and a pair in one alone. A trait over both would
+// name each of these twice more.
+impl MetaHeader {
+    #[tactic(auto, unfolding(crate::specs::Page::meta_of))]
+    fn from_page(pg: &[u8]) -> Option<MetaHeader>
+        ensures { result ≡ meta_of pg.now }
+    {
+        if begins(pg, META_MAGIC) {
+            Some(MetaHeader {
+                page_count: runs::u32_at(pg, 4),
+                seq: runs::u32_at(pg, 8),
+            })
+        } else {
+            None
+        }
+    }
+
+    #[tactic(auto, unfolding(crate::specs::Page::meta_bytes))]
+    fn to_bytes(self) -> [u8; META_SIZE]
+        ensures { result ≡ meta_bytes self }
+    {
+        let mut bytes = [0; META_SIZE];
+        bytes[..4].copy_from_slice(&META_MAGIC.to_le_bytes());
+        bytes[4..8].copy_from_slice(&self.page_count.to_le_bytes());
+        bytes[8..].copy_from_slice(&self.seq.to_le_bytes());
+        bytes
     }
 }
 
@@ -154,19 +198,19 @@ impl<'a> PageView<'a> {
     pub fn header(self) -> Option<DataHeader>
         ensures { result ≡ gives (header_of (page_of self.entry.image.now self.entry.page)) }
     {
-        header_of(self.bytes())
+        DataHeader::from_page(self.bytes())
     }
 
     pub fn meta(self) -> Option<MetaHeader>
         ensures { result ≡ meta_of (page_of self.entry.image.now self.entry.page) }
     {
-        meta_of(self.bytes())
+        MetaHeader::from_page(self.bytes())
     }
 
     pub fn back(self) -> Option<BackRead>
         ensures { result ≡ gives_back (header_of (page_of self.entry.image.now self.entry.page)) }
     {
-        back_of(self.bytes())
+        BackRead::from_page(self.bytes())
     }
 }
 
@@ -209,43 +253,6 @@ pub fn payload_at(image: &[u8], p: usize, off: usize, n: usize) -> &[u8]
     }
 }
 
-// ---- bytes of headers
-
-fn links_bytes(links: [u16; 9]) -> [u8; 18]
-    ensures { result ≡ pairs links }
-{
-    let mut bytes = [0; 18];
-    for (i, link) in links.iter().enumerate() {
-        bytes[2 * i..2 * i + 2].copy_from_slice(&link.to_le_bytes());
-    }
-    bytes
-}
-
-#[tactic(auto, unfolding(crate::specs::Page::header_bytes))]
-fn header_bytes(h: DataHeader) -> [u8; HEADER_SIZE]
-    ensures { result ≡ header_bytes h }
-{
-    let mut bytes = [0; HEADER_SIZE];
-    bytes[..4].copy_from_slice(&DATA_MAGIC.to_le_bytes());
-    bytes[4..8].copy_from_slice(&h.seq.to_le_bytes());
-    bytes[8..26].copy_from_slice(&links_bytes(h.skiplist));
-    bytes[26..28].copy_from_slice(&h.record_boundary.to_le_bytes());
-    bytes[28..30].copy_from_slice(&h.length.to_le_bytes());
-    bytes[30..].copy_from_slice(&(u16::MAX - h.length).to_le_bytes());
-    bytes
-}
-
-#[tactic(auto, unfolding(crate::specs::Page::meta_bytes))]
-fn meta_bytes(m: MetaHeader) -> [u8; 12]
-    ensures { result ≡ meta_bytes m }
-{
-    let mut bytes = [0; 12];
-    bytes[..4].copy_from_slice(&META_MAGIC.to_le_bytes());
-    bytes[4..8].copy_from_slice(&m.page_count.to_le_bytes());
-    bytes[8..].copy_from_slice(&m.seq.to_le_bytes());
-    bytes
-}
-
 // ---- stores
 
 // Erases page p to 0xFF.
@@ -273,12 +280,12 @@ pub fn store_data(image: &mut [u8], p: usize, h: DataHeader, payload: &[u8])
 {
     erase(image, p);
     program(image, p, HEADER_SIZE, payload);
-    program(image, p, 0, &header_bytes(h));
+    program(image, p, 0, &h.to_bytes());
 }
 
 // Stores a metadata page's header, which makes the page readable.
 pub fn store_meta(image: &mut [u8], p: usize, m: MetaHeader)
     ensures { image.new ≡ stored image.old (meta_store p m) }
 {
-    program(image, p, 0, &meta_bytes(m));
+    program(image, p, 0, &m.to_bytes());
 }

@@ -9,7 +9,7 @@ use Rattle.chain.specs.Seek.{Right, most}
 use Rattle.chain.proofs.Seeks.{right}
 use Rattle.chain.proofs.Seeks as seeks
 use Rattle.runs.specs.Runs.{part}
-use Rattle.reader.specs.declared.Located.TheVariants.{At}
+use Rattle.reader.specs.Locate.{located_at}
 use Rattle.reader.specs.declared.Reader.{Reader}
 use Rattle.reader.specs.Locate.{path_of, located_by, locate_in, locate}
 use Rattle.reader.specs.Read.{Opened, shown, opened_at, opened_by, open_at, some, before, here, bytes_here, bytes_by, bytes_from, read_by, read_kept, read_in, moved, read}
@@ -188,7 +188,7 @@ module _ {N : ℕ} {w : World} {b : Base} {own : ℕ → Owner} (g : Good (Unit 
           sym (r.only (page n) right_page.among a c)
 
       -- LOCATE, past the checks
-      locate_in_lem : locate_in w.image b.pc (rec_at w.table i) n ≡ At (page n).page_id (length (path_of w.image b.pc (rec_at w.table i) n).path)
+      locate_in_lem : locate_in w.image b.pc (rec_at w.table i) n ≡ located_at (page n).page_id (length (path_of w.image b.pc (rec_at w.table i) n).path)
       unfolding locate_in
       locate_in_lem =
           rw (le-ltb n f.first_seq low, lt-leb f.last_seq n high, in_shape_lem)
@@ -279,7 +279,7 @@ module _ {N : ℕ} {w : World} {b : Base} {own : ℕ → Owner} (g : Good (Unit 
           page = page full n;
           gives =
               ap (λ (d : Done). on_done d Err (locate_in img w.state.page_count (file_at w.table i) n)) passes
-              ∙ subst (λ (p : Both). locate_in img p.count p.file n ≡ At (page full n).page_id (length (path_of img p.count p.file n).path)) (sym both_is) (locate_in_lem full n lo hi);
+              ∙ subst (λ (p : Both). locate_in img p.count p.file n ≡ located_at (page full n).page_id (length (path_of img p.count p.file n).path)) (sym both_is) (locate_in_lem full n lo hi);
           stepped = subst (λ (p : Both). (walk p.count (read_at img) n (last_of p.file)).ends ≡ at (page full n)) (sym both_is) (right_page full n lo hi).stepped;
           on_chain = subst (λ (f : FileRecord). OnChain w f (page full n).page_id) (sym file_is) (record { some = full; visits = subst (In (page full n).page_id) (sym (chain_pages g i full)) (mem_in (subst (Mem (page full n).page_id) (chain_ids full) (page_mem full n lo hi))) });
           stands = page_stands full n lo hi;

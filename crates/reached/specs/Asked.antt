@@ -21,7 +21,7 @@ use Rattle.page.specs.declared.DataHeader.{DataHeader}
 use Rattle.chain.specs.declared.PagePointer.{PagePointer}
 use Rattle.seq.specs.Seq.{multiples}
 use Rattle.chain.specs.Seek.{Agree}
-use Rattle.reader.specs.declared.Located.TheVariants.{At}
+use Rattle.reader.specs.Locate.{located_at}
 use Rattle.reader.specs.declared.Reader.{Reader}
 use Rattle.reader.specs.Locate.{path_of, locate}
 use Rattle.reader.specs.Read.{read, moved}
@@ -110,7 +110,7 @@ pub record Again (w : World) (m : List ℕ) (t : Table) (s : State) : Type 0 whe
 pub record Locates (w : World) (i n : ℕ) : Type 0 where
   pub page : PagePointer
   -- it gives that page, with the length of the rule's path
-  pub gives : locate w i n ≡ At page.page_id (length (path_of w.image w.state.page_count (file_at w.table i) n).path)
+  pub gives : locate w i n ≡ located_at page.page_id (length (path_of w.image w.state.page_count (file_at w.table i) n).path)
   -- the page that stepping back page by page gives
   pub stepped : (walk w.state.page_count (read_at w.image) n (last_of (file_at w.table i))).ends ≡ at page
   -- the one page of the file's chain that holds the number

@@ -1,8 +1,7 @@
 -- The bytes of a read, page by page: what one page gives, that fuel beyond the bytes changes nothing, and what a turn of the code's
 -- loop leaves to read. Assumes nothing.
-use Rattle.std.specs.Prelude.{Err}
-use Rattle.state.specs.Refusals.{fine}
-use mathlib.Core.Path.{◌≡◌, refl, sym, ap, ◌∙◌}
+use Rattle.std.specs.Prelude.{Option, Some, None, Ok, Err}
+use mathlib.Core.Path.{◌≡◌, refl, sym, ap, subst, ◌∙◌}
 use mathlib.Core.Bool.{true, false}
 use mathlib.Core.List.{List, [], ◌++◌, append-nil, append_assoc}
 use mathlib.Core.Logic.{inl, inr}
@@ -10,19 +9,24 @@ use Prim.Native.Nat.{ℕ, zero, suc, min, ◌+◌, ◌-◌, ◌<◌, ◌≤◌}
 use native.Mathlib.Nat.{eq-zero-or-pos, sub_self}
 use native.Mathlib.Omega.{arith}
 use borrow.Author.Tests.{ne_eqb}
-use lib.ListN.{length, take, drop, replicate, length-append}
+use lib.ListN.{length, take, drop, replicate, length-append, length-drop}
+use borrow.Rule.Slice.PartMut.{mid_of, post_of, put_mid}
 use lib.Seq.{take_all, take_at, length-take-le}
-use Rattle.runs.specs.Runs.{part_of, splice, placed}
-use Rattle.runs.proofs.Laws.{length_part, part_of_in, placed_in}
+use Rattle.runs.specs.Runs.{part_of}
+use Rattle.runs.proofs.Laws.{length_part, part_of_in}
 use Rattle.page.specs.Page.{page_of}
 use Rattle.chain.specs.declared.PagePointer.{PagePointer}
 use Rattle.state.specs.declared.types.FileRecord.{FileRecord}
-use Rattle.state.specs.declared.types.Refusal.TheVariants.{Damaged}
-use Rattle.reader.specs.declared.Reader.{Reader}
 use Rattle.reader.specs.declared.pages.Opening.{Opening}
-use Rattle.reader.specs.Read.{Opened, shut, shown, open_at, Bytes, none, some, before, here, bytes_here, bytes_by, bytes_from, AfterRead, after_read, read_by}
-use Rattle.reader.specs.Turn.{opening, Turn, turn, turn_by, turned}
-use Rattle.reader.proofs.Exits.{opening_shut, Shows, opened_says}
+use Rattle.reader.specs.Read.{Opened, shut, shown, open_at, Bytes, none, some, before, here, bytes_here, bytes_by, bytes_from, after_read, read_by, read_in}
+use Rattle.reader.specs.Turn.{opening, Turn, turn, turn_by, turned, all_of, behind}
+use Rattle.state.specs.Refusals.{fine}
+use Rattle.state.specs.declared.types.Refusal.TheVariants.{Damaged}
+use Rattle.state.specs.Values.{in_shape}
+use Rattle.reader.specs.declared.Reader.{Reader}
+use Rattle.std.specs.Option.{is_some}
+use Rattle.std.proofs.lemmas.Option.{same_Some}
+use Rattle.reader.proofs.Exits.{Shows, opened_says, read_shaped, read_shapeless}
 
 -- ---- one page's bytes
 
@@ -41,13 +45,11 @@ module _ (img : List ℕ) (seq n : ℕ) (p : PagePointer) (s : Shows img seq p) 
   pub here_length : length (bytes_here img p seq n) ≡ here p seq n
   here_length = length_part (page_of img p.page_id) (32 + (seq - p.header.seq)) (here p seq n) here_inside
 
--- up to a run's end a splice is what stood before the run, and the run
-take_run : (l : List ℕ) (at : ℕ) (r : List ℕ) → at ≤ length l → take (at + length r) (splice l at r) ≡ take at l ++ r
-unfolding splice
-take_run l at r h =
+-- up to a run's end a list is what stands before the run, and the run
+take_run : (l r t : List ℕ) (at : ℕ) → at ≤ length l → take (at + length r) (take at l ++ (r ++ t)) ≡ take at l ++ r
+take_run l r t at h =
     let e : length (take at l ++ r) ≡ at + length r = simp (length-append, length-take-le at l h) in
-    ap (take (at + length r)) (sym (append_assoc (take at l) r (drop (at + length r) l)))
-    ∙ take_at (take at l ++ r) (drop (at + length r) l) (at + length r) e
+    ap (take (at + length r)) (sym (append_assoc (take at l) r t)) ∙ take_at (take at l ++ r) t (at + length r) e
 
 -- ---- bytes after bytes
 
@@ -115,123 +117,134 @@ module _ (img : List ℕ) (count : ℕ) (f : FileRecord) where
 
   -- ---- one turn of the code's loop
 
-  module _ (seq done : ℕ) (out : List ℕ) (room : done < length out) where
+  module _ (seq : ℕ) (out : List ℕ) where
     -- no page opens
-    pub turn_shut : (o : Opening) → o ≡ opening seq (open_at img count f seq) → o.ok ≡ false → turn 0 out ≡ turned img count f seq done out
+    pub turn_shut : None ≡ opening seq (open_at img count f seq) → turn None out ≡ turned img count f seq out
     unfolding turned
-    turn_shut o is t = rw (opening_shut o seq (open_at img count f seq) is t)
-
-    -- a page's bytes are placed
-    pub turn_shown : (o : Opening) (n : ℕ) (run out' : List ℕ) → o ≡ opening seq (open_at img count f seq) → o.ok ≡ true
-        → n ≡ min (length out - done) o.left → run ≡ part_of (page_of img o.page) (32 + o.off) n → out' ≡ placed out done run
-        → turn n out' ≡ turned img count f seq done out
-    unfolding turned
-    turn_shown o n run out' is t en er eo = go (open_at img count f seq) refl is
+    turn_shut e = by (open_at img count f seq) e
       where
-        go : (x : Opened) → open_at img count f seq ≡ x → o ≡ opening seq x → turn n out' ≡ turn_by img seq done out x
-        go shut e is = let z : false ≡ true = sym (ap (λ (y : Opening). y.ok) is) ∙ t in let y : ◌≡◌ {A = ℕ} 0 1 = cc in absurd (omega arith)
-        go (shown p) e is =
-            let s = opened_says img count f seq p e in
-            let k = length out - done in
-            let left : o.left ≡ p.header.seq + p.header.length - seq = ap (λ (y : Opening). y.left) is in
-            let same : n ≡ here p seq (length out - done) = en ∙ rw left in
-            let pg : o.page ≡ p.page_id = ap (λ (y : Opening). y.page) is in
-            let off : o.off ≡ seq - p.header.seq = ap (λ (y : Opening). y.off) is in
-            let taken : run ≡ bytes_here img p seq (length out - done) =
-            er ∙ rw (pg, off, same) (part_of_in (page_of img p.page_id) (32 + (seq - p.header.seq)) (here p seq k) (here_inside img seq k p s)) in
-            let long : length (bytes_here img p seq (length out - done)) ≡ here p seq (length out - done) = here_length img seq k p s in
-            let fits : done + length (bytes_here img p seq (length out - done)) ≤ length out = omega arith in
-            let put : out' ≡ splice out done (bytes_here img p seq (length out - done)) =
-            eo ∙ rw taken (placed_in out done (bytes_here img p seq (length out - done)) fits) in
-            rw (same, put)
+        by : (x : Opened) → None ≡ opening seq x → turn None out ≡ turn_by img seq out x
+        by shut e = refl
+        by (shown p) e = cc
+
+    -- a page's bytes are there, and stand in front
+    module _ (o : Opening) (n : ℕ) (run : List ℕ) (is : Some o ≡ opening seq (open_at img count f seq)) (en : n ≡ min (length out) o.left)
+        (er : run ≡ part_of (page_of img o.page) (32 + o.offset) n) where
+      shown_as : (x : Opened) → open_at img count f seq ≡ x → Some o ≡ opening seq x
+          → (n ≡ length run) × (turn (Some n) (run ++ drop n out) ≡ turn_by img seq out x)
+      shown_as shut e is = cc
+      shown_as (shown p) e is =
+          let s = opened_says img count f seq p e in
+          let same : o ≡ record { page = p.page_id; offset = seq - p.header.seq; left = p.header.seq + p.header.length - seq } = same_Some _ _ is in
+          let k : n ≡ here p seq (length out) = en ∙ ap (λ (y : Opening). min (length out) y.left) same in
+          let taken : run ≡ bytes_here img p seq (length out) =
+          er
+          ∙ ap (λ (y : Opening). part_of (page_of img y.page) (32 + y.offset) n) same
+          ∙ rw k (part_of_in (page_of img p.page_id) (32 + (seq - p.header.seq)) (here p seq (length out)) (here_inside img seq (length out) p s)) in
+          (k ∙ sym (ap length taken ∙ here_length img seq (length out) p s), rw (k, taken))
+
+      pub turn_fits : length (take n out) ≡ length run
+      turn_fits = length-take-le n out (omega arith) ∙ (shown_as (open_at img count f seq) refl is).0
+
+      pub turn_shown : turn (Some n) (run ++ drop n out) ≡ turned img count f seq out
+      unfolding turned
+      turn_shown = (shown_as (open_at img count f seq) refl is).1
 
   -- what is read so far, and what is left to read
   abbrev pub rest : ℕ → ℕ → ℕ → List ℕ → Bytes
   rest seq n done out = before (take done out) (bytes (seq + done) (n - done))
 
-  pub rest_first : (seq n : ℕ) (out : List ℕ) → bytes seq n ≡ rest seq n 0 out
-  rest_first seq n out =
-      let a : seq + 0 ≡ seq = omega arith in
-      let b : n - 0 ≡ n = omega arith in
-      rw (a, b) (sym (before_nil (bytes seq n)))
-
   pub rest_last : (seq n : ℕ) (out : List ℕ) → length out ≤ n → rest seq n n out ≡ some out
   rest_last seq n out h = rw (sub_self n, bytes_empty 0 (seq + n), append-nil (take n out), take_all n out h)
 
-  module _ (seq done : ℕ) (out : List ℕ) (m : ℕ) (out' : List ℕ) (room : done < length out)
-      (is : turn m out' ≡ turned img count f (seq + done) done out) where
-    -- a turn that gives none: the read is damaged
-    pub rest_shut : m ≡ 0 → rest seq (length out) done out ≡ none
+  -- the part of the output behind what is read was lent to a turn, and is back
+  module _ (seq done : ℕ) (out : List ℕ) (m : Option ℕ) (front : List ℕ) (room : done < length out)
+      (lent : turn m front ≡ turned img count f (seq + done) (mid_of done (length out - done) out)) where
+    left : length (drop done out) ≡ length out - done
+    left = length-drop done out
+
+    is : turn m front ≡ turned img count f (seq + done) (drop done out)
+    is = rw (take_all (length out - done) (drop done out) (omega (arith, left))) at lent
+
+    -- no page opens: the read is damaged
+    pub rest_shut : m ≡ None → rest seq (length out) done out ≡ none
     unfolding turned
     rest_shut z = go (open_at img count f (seq + done)) refl is
       where
-        go : (x : Opened) → open_at img count f (seq + done) ≡ x → turn m out' ≡ turn_by img (seq + done) done out x → rest seq (length out) done out ≡ none
+        go : (x : Opened) → open_at img count f (seq + done) ≡ x → turn m front ≡ turn_by img (seq + done) (drop done out) x
+            → rest seq (length out) done out ≡ none
         go shut e is = rw (bytes_shut (seq + done) (length out - done) (omega arith) e)
-        go (shown p) e is =
-            let s = opened_says img count f (seq + done) p e in
-            let k = length out - done in
-            let t : m ≡ here p (seq + done) (length out - done) = ap (λ (y : Turn). y.taken) is in
-            let g = here_some img (seq + done) k p s (omega arith) in
-            absurd (omega arith)
+        go (shown p) e is = let t = ap (λ (y : Turn). y.taken) is in cc
 
-    -- one that gives some: the rest is as it was
-    pub rest_more : (m ≡ 0 → ⊥) → (done + m ≤ length out) × (rest seq (length out) (done + m) out' ≡ rest seq (length out) done out)
+    -- one does: the rest is as it was
+    pub rest_more : (k : ℕ) → m ≡ Some k
+        → (0 < k) × (done + k ≤ length out) × (rest seq (length out) (done + k) (put_mid done (length out - done) out front) ≡ rest seq (length out) done out)
     unfolding turned
-    rest_more pos = go (open_at img count f (seq + done)) refl is
+    rest_more k z = go (open_at img count f (seq + done)) refl is
       where
-        go : (x : Opened) → open_at img count f (seq + done) ≡ x → turn m out' ≡ turn_by img (seq + done) done out x
-            → (done + m ≤ length out) × (rest seq (length out) (done + m) out' ≡ rest seq (length out) done out)
-        go shut e is = absurd (pos (ap (λ (y : Turn). y.taken) is))
+        go : (x : Opened) → open_at img count f (seq + done) ≡ x → turn m front ≡ turn_by img (seq + done) (drop done out) x
+            → (0 < k) × (done + k ≤ length out) × (rest seq (length out) (done + k) (put_mid done (length out - done) out front) ≡ rest seq (length out) done out)
+        go shut e is = let t = ap (λ (y : Turn). y.taken) is in cc
         go (shown p) e is =
             let s = opened_says img count f (seq + done) p e in
-            let k = length out - done in
-            let b = bytes_here img p (seq + done) k in
-            let t : m ≡ here p (seq + done) (length out - done) = ap (λ (y : Turn). y.taken) is in
-            let o : out' ≡ splice out done (bytes_here img p (seq + done) (length out - done)) = ap (λ (y : Turn). y.out) is in
-            let l : length (bytes_here img p (seq + done) (length out - done)) ≡ m = here_length img (seq + done) k p s ∙ sym t in
-            let i : m ≤ length out - done = omega arith in
-            let taken : take (done + m) (splice out done (bytes_here img p (seq + done) (length out - done))) ≡ take done out ++ bytes_here img p (seq + done) (length out - done) =
-            rw (← l) (take_run out done b (omega arith)) in
-            let e1 : take (done + m) out' ≡ take done out ++ bytes_here img p (seq + done) (length out - done) = ap (take (done + m)) o ∙ taken in
-            let e2 : bytes (seq + done) (length out - done) ≡ before (bytes_here img p (seq + done) (length out - done)) (bytes (seq + done + m) (length out - done - m)) =
-            rw t (bytes_shown (seq + done) k p (omega arith) e) in
-            let e3 : seq + (done + m) ≡ seq + done + m = omega arith in
-            let e4 : length out - (done + m) ≡ length out - done - m = omega arith in
-            (omega arith, rw (e1, e2, e3, e4) (before_before (take done out) b (bytes (seq + done + m) (length out - done - m))))
+            let n = length out - done in
+            let b = bytes_here img p (seq + done) n in
+            let tail = drop (here p (seq + done) n) (drop done out) in
+            let taken : Some k ≡ Some (here p (seq + done) (length out - done)) = sym z ∙ rw left at (ap (λ (y : Turn). y.taken) is) in
+            let t : k ≡ here p (seq + done) (length out - done) = same_Some _ _ taken in
+            let o : front ≡ bytes_here img p (seq + done) (length out - done) ++ drop (here p (seq + done) (length out - done)) (drop done out) =
+            rw left at (ap (λ (y : Turn). y.out) is) in
+            let l : length (bytes_here img p (seq + done) (length out - done)) ≡ k = here_length img (seq + done) n p s ∙ sym t in
+            let pos : 0 < here p (seq + done) (length out - done) = here_some img (seq + done) n p s (omega arith) in
+            let i : k ≤ length out - done = omega arith in
+            let e1 : take (done + k) (put_mid done (length out - done) out front) ≡ take done out ++ bytes_here img p (seq + done) (length out - done) =
+            rw (o, ← l, append_assoc b tail (post_of done n out)) (take_run out b (tail ++ post_of done n out) done (omega arith)) in
+            let e2 : bytes (seq + done) (length out - done) ≡ before (bytes_here img p (seq + done) (length out - done)) (bytes (seq + done + k) (length out - done - k)) =
+            rw t (bytes_shown (seq + done) n p (omega arith) e) in
+            let e3 : seq + (done + k) ≡ seq + done + k = omega arith in
+            let e4 : length out - (done + k) ≡ length out - done - k = omega arith in
+            (omega arith, omega arith, rw (e1, e2, e3, e4) (before_before (take done out) b (bytes (seq + done + k) (length out - done - k))))
 
     -- ---- as the loop says it: n bytes are wanted, and whole is what a read of them gives
 
     module _ (n : ℕ) (whole : Bytes) (long : length out ≡ n) (inv : rest seq n done out ≡ whole) where
-      pub turn_none : m ≡ 0 → whole ≡ none
+      pub turn_none : m ≡ None → whole ≡ none
       turn_none z = sym inv ∙ rw (← long) (rest_shut z)
 
-      pub turn_again : length out' ≡ length out → (m ≡ 0 → ⊥) → (done + m ≤ length out') × (length out' ≡ n) × (rest seq n (done + m) out' ≡ whole)
-      turn_again kept pos =
-          let w = rest_more pos in
-          let same : rest seq n (done + m) out' ≡ rest seq n done out = rw long at w.1 in
-          (omega (arith, w.0), kept ∙ long, same ∙ inv)
+      pub turn_again : (k : ℕ) → m ≡ Some k
+          → (0 < k) × (done + k ≤ n) × (rest seq n (done + k) (put_mid done (length out - done) out front) ≡ whole)
+      turn_again k z =
+          let w = rest_more k z in
+          let same = subst (λ (x : ℕ). rest seq x (done + k) (put_mid done (length out - done) out front) ≡ rest seq x done out) long w.2 in
+          (w.0, rw long at w.1, same ∙ inv)
 
--- a turn that gives some leaves less
-pub turn_less : (a b d m : ℕ) → b ≡ a → (m ≡ 0 → ⊥) → d < a → b - (d + m) < a - d
-turn_less a b d m e n h = omega arith
+-- ---- all of a read
 
--- ---- the read's answer
+-- where every page opened, and where one did not
+all_read : (b : Option (Unit {0})) (out : List ℕ) (whole : Bytes) → all_of b out ≡ whole → is_some b ≡ true → whole ≡ some out
+all_read None out whole e t = cc
+all_read (Some u) out whole e t = sym e
 
-pub read_damaged : (r : Reader) (x : AfterRead) (out' out : List ℕ) (whole : Bytes) → x ≡ read_by r out' none → length out' ≡ length out → whole ≡ none
-    → x ≡ read_by r out whole
-read_damaged r x out' out whole e l z = e ∙ rw (z, l)
+all_lost : (b : Option (Unit {0})) (out : List ℕ) (whole : Bytes) → all_of b out ≡ whole → is_some b ≡ false → whole ≡ none
+all_lost None out whole e t = sym e
+all_lost (Some u) out whole e t = cc
 
-pub read_zeroed : (r : Reader) (out out' : List ℕ) → out' ≡ replicate (length out) 0
-    → after_read (record { answer = Err Damaged; reader = r }) out' ≡ read_by r out none
-read_zeroed r out out' e = rw e
+module _ (img : List ℕ) (count : ℕ) (f : FileRecord) (r : Reader) (out : List ℕ) (some : length out ≡ 0 → ⊥) (end : ℕ)
+    (ends : Ok end ≡ behind f r.seq (length out)) where
+  -- a read's bytes come out, and the reader stands behind them
+  pub read_whole : (b : Option (Unit {0})) (out' : List ℕ) → end ≡ r.seq + length out → in_shape count f ≡ true
+      → all_of b out' ≡ bytes img count f r.seq (length out) → is_some b ≡ true
+      → after_read fine (record { file = r.file; seq = end }) out' ≡ read_in img count f r out
+  read_whole b out' is fits e t =
+      rw is (ap (read_by r out) (sym (all_read b out' (bytes img count f r.seq (length out)) e t)) ∙ read_shaped img count f r out some end ends fits)
 
-pub read_done : (img : List ℕ) (count : ℕ) (f : FileRecord) (r : Reader) (out₀ out : List ℕ) (done : ℕ)
-    → done ≤ length out → length out ≤ done → length out ≡ length out₀
-    → rest img count f r.seq (length out₀) done out ≡ bytes img count f r.seq (length out₀)
-    → after_read (record { answer = fine; reader = record { file = r.file; seq = r.seq + done } }) out
-    ≡ read_by r out₀ (bytes img count f r.seq (length out₀))
-read_done img count f r out₀ out done h g l inv =
-    let e : done ≡ length out₀ = omega arith in
-    let all : length out ≤ length out₀ = omega arith in
-    let w : bytes img count f r.seq (length out₀) ≡ some out = sym inv ∙ rw e (rest_last img count f r.seq (length out₀) out all) in
-    rw (w, e)
+  -- they don't, and the output is zero
+  module _ (zero : List ℕ) (is : zero ≡ replicate (length out) 0) where
+    pub read_zero : in_shape count f ≡ false → after_read (Err Damaged) r zero ≡ read_in img count f r out
+    read_zero fits = rw is (read_shapeless img count f r out some end ends fits)
+
+    pub read_lost : (b : Option (Unit {0})) (out' : List ℕ) → in_shape count f ≡ true
+        → all_of b out' ≡ bytes img count f r.seq (length out) → is_some b ≡ false
+        → after_read (Err Damaged) r zero ≡ read_in img count f r out
+    read_lost b out' fits e t =
+        rw is (ap (read_by r out) (sym (all_lost b out' (bytes img count f r.seq (length out)) e t)) ∙ read_shaped img count f r out some end ends fits)

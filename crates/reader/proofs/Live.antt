@@ -24,11 +24,10 @@ use Rattle.state.specs.Values.{file_at, in_shape}
 use Rattle.state.specs.World.{World}
 use Rattle.state.proofs.Laws.{shape_says}
 use Rattle.reader.specs.declared.Reader.{Reader}
-use Rattle.reader.specs.declared.Located.TheVariants.{At}
 use Rattle.reader.specs.Skip.{landed_by, skip_in, skip}
-use Rattle.reader.specs.Locate.{path_of, located_by, locate_in, locate}
+use Rattle.reader.specs.Locate.{path_of, located_by, located_at, locate_in, locate}
 use Rattle.reader.specs.Read.{shown, open_at, some, here, bytes_here, AfterRead, moved, read_kept, read_by, read_in, read}
-use Rattle.reader.proofs.Exits.{open_there, open_holds, opened_says, located_as, read_none, read_shaped, read_fine, locate_fine, skip_lands, land_end, landed_by_lem, skip_fine}
+use Rattle.reader.proofs.Exits.{open_there, open_holds, opened_says, located_as, behind_live, read_none, read_shaped, read_fine, locate_fine, skip_lands, land_end, landed_by_lem, skip_fine}
 use Rattle.reader.proofs.Bytes.{here_le, here_some, bytes, bytes_empty, bytes_shown}
 use Rattle.reader.proofs.Places.{bytes_right, Steady, joined, bytes_split}
 
@@ -80,7 +79,7 @@ module _ (img : List ℕ) (count d : ℕ) (f : FileRecord) (l : List PagePointer
         ∙ rw (among_stands (read_at img) q (last_of f) l live.stands live.chain.stand r.among) (open_holds q.page_id t q.header r.holds.0 r.holds.1)
 
     -- locate gives it
-    pub live_locate : locate_in img count f t ≡ At (page_for t).page_id (length (path_of img count f t).path)
+    pub live_locate : locate_in img count f t ≡ located_at (page_for t).page_id (length (path_of img count f t).path)
     live_locate = located_as img count f t low high live.shape ∙ ap (located_by (length (path_of img count f t).path)) live_right.sought
 
   -- the page that opens for a number opens for every later one that it holds
@@ -144,13 +143,13 @@ module _ (img : List ℕ) (count d : ℕ) (f : FileRecord) (l : List PagePointer
         | inl z ↦ (out, rw z (bytes_empty img count f 0 r.seq ∙ ap some (sym (empty out z))), sym (read_none img count f r out z) ∙ stays r out z)
         | inr pos ↦
             let w = live_bytes (length out) r.seq lo hi in
-            (w.0, w.1, sym (read_shaped img count f r out (λ z. omega arith) lo (omega arith) (omega arith) live.shape) ∙ ap (read_by r out) w.1)
+            (w.0, w.1, sym (read_shaped img count f r out (λ z. omega arith) (r.seq + length out) (sym (behind_live f r.seq (length out) lo (omega arith) hi)) live.shape) ∙ ap (read_by r out) w.1)
       ]
 
   -- so does a skip over them
   pub live_skip : (seq n : ℕ) → 0 < n → f.first_seq ≤ seq → seq + n ≤ f.last_seq → skip_in img count f seq n ≡ Ok (seq + n)
   live_skip seq n pos lo hi =
-      sym (skip_lands img count f seq n (λ z. omega arith) lo (omega arith) (omega arith))
+      sym (skip_lands img count f seq n (λ z. omega arith) lo (omega arith) hi)
       ∙ elim (eq-or-lt_of_le hi) [
         | inl e ↦ sym (land_end img count f (seq + n) e)
         | inr lt ↦ landed_by_lem img count f (seq + n) (λ z. omega arith) live.shape ∙ ap (landed_by (seq + n)) (live_open (seq + n) (omega arith) lt)
@@ -216,7 +215,7 @@ skip_live w r n d l ok live pos lo hi =
 -- locate gives the page of a live number, with few headers read
 pub locate_live : (w : World) (file t : ℕ) (l : List PagePointer) → Passes w file → LiveFile w file 224 l
     → (file_at w.table file).first_seq ≤ t → t < (file_at w.table file).last_seq
-    → (n : ℕ) × (locate w file t ≡ At (holder t (last_of (file_at w.table file)) l).page_id n) × (n ≤ most t (file_at w.table file).header.seq)
+    → (n : ℕ) × (locate w file t ≡ located_at (holder t (last_of (file_at w.table file)) l).page_id n) × (n ≤ most t (file_at w.table file).header.seq)
 locate_live w file t l ok live lo hi =
     let f = file_at w.table file in
     let count = w.state.page_count in (

@@ -8,21 +8,20 @@ use mathlib.Core.List.{List}
 use lib.ListN.{get_or}
 use Rattle.state.proofs.Numbers.{by_code, by_number, read_back}
 use Rattle.reader.specs.declared.Located.{Located}
-use Rattle.reader.specs.declared.Located.TheVariants.{At}
-use Rattle.reader.specs.Locate.{located_numbers}
+use Rattle.reader.specs.Locate.{located_numbers, located_at}
 use Rattle.reader.specs.Skip.{skipped_numbers}
 use Rattle.reader.specs.Read.{AfterRead, ToldRead, read_told}
 
 -- ---- locate
 
-abbrev located_in : List ℕ → Located
-located_in l = by_code (get_or l 0 0) (At (get_or l 1 0) (get_or l 2 0)) Err
+abbrev located_in : List ℕ → Result Located Refusal
+located_in l = by_code (get_or l 0 0) (located_at (get_or l 1 0) (get_or l 2 0)) Err
 
-located_back : (a : Located) → located_in (located_numbers a) ≡ a
-located_back (At page headers) = refl
-located_back (Err why) = by_number (At 0 0) Err why
+located_back : (a : Result Located Refusal) → located_in (located_numbers a) ≡ a
+located_back (Ok l) = refl
+located_back (Err why) = by_number (located_at 0 0) Err why
 
-pub located_same : (a b : Located) → located_numbers a ≡ located_numbers b → a ≡ b
+pub located_same : (a b : Result Located Refusal) → located_numbers a ≡ located_numbers b → a ≡ b
 located_same = read_back located_numbers located_in located_back
 
 -- ---- skip and seek

@@ -136,7 +136,7 @@ module _ (img : List ℕ) (count : ℕ) (f : FileRecord) where
       next : (p : PagePointer) → 0 < n → open_at img count f seq ≡ shown p
           → ((m s : ℕ) (k : List ℕ) → m ≤ g → bytes img count f s m ≡ some k → Right s m k)
           → (x : Bytes) → bytes img count f (seq + here p seq n) (n - here p seq n) ≡ x → before (bytes_here img p seq n) x ≡ some l → Right seq n l
-      next p pos o r none d q = let y : ◌≡◌ {A = ℕ} 0 1 = cc in absurd (omega arith)
+      next p pos o r none d q = cc
       next p pos o r (some m) d q =
           let s = opened_says img count f seq p o in
           let a = here_some img seq n p s pos in
@@ -145,7 +145,7 @@ module _ (img : List ℕ) (count : ℕ) (f : FileRecord) where
 
       go : 0 < n → (x : Opened) → open_at img count f seq ≡ x
           → ((m s : ℕ) (k : List ℕ) → m ≤ g → bytes img count f s m ≡ some k → Right s m k) → Right seq n l
-      go pos shut o r = let z = sym (bytes_shut img count f seq n pos o) ∙ e in let y : ◌≡◌ {A = ℕ} 0 1 = cc in absurd (omega arith)
+      go pos shut o r = let z = sym (bytes_shut img count f seq n pos o) ∙ e in cc
       go pos (shown p) o r =
           next p pos o r (bytes img count f (seq + here p seq n) (n - here p seq n)) refl (sym (bytes_shown img count f seq n p pos o) ∙ e)
 

@@ -1,6 +1,6 @@
 -- Small questions of a reader, of the files and of the pages; DECISIONS 46. A reader's offset is `offset_in` of `state`. Assumes nothing: these are definitions.
 use Rattle.state.specs.declared.types.Refusal.{Refusal}
-use Rattle.std.specs.Prelude.{ℕ, ◌-◌, Bool, cond, not, List, [], ◌∷◌, eqb, ltb, take, Result, Ok, Err}
+use Rattle.std.specs.Prelude.{ℕ, ◌-◌, Bool, true, false, cond, not, List, [], ◌∷◌, eqb, ltb, take, Result, Ok, Err}
 use Rattle.std.specs.Int.Bits.{bit_and}
 use Rattle.map.specs.Map.{free_count}
 use Rattle.state.specs.declared.types.Table.{Table}

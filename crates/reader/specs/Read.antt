@@ -11,7 +11,6 @@ use Rattle.state.specs.Refusals.{numbers, Done, fine}
 use Rattle.state.specs.Values.{file_at, in_shape}
 use Rattle.state.specs.World.{World, checked}
 use Rattle.reader.specs.declared.Reader.{Reader}
-use Rattle.reader.specs.declared.ReadOut.{ReadOut}
 use Rattle.reader.specs.Locate.{path_of}
 
 -- ---- opening a page: its header reads from the image, and it holds the number
@@ -66,9 +65,9 @@ pub record AfterRead : Type 0 where
   pub reader : Reader
   pub out : List ℕ
 
--- of what the call hands back and the output then
-abbrev pub after_read : ReadOut → List ℕ → AfterRead
-after_read r out = record { answer = r.answer; reader = r.reader; out = out }
+-- of what the call answers, and of the reader and the output then
+abbrev pub after_read : Done → Reader → List ℕ → AfterRead
+after_read a r out = record { answer = a; reader = r; out = out }
 
 abbrev pub read_kept : Reader → List ℕ → Done → AfterRead
 read_kept r out a = record { answer = a; reader = r; out = out }

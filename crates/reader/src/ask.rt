@@ -1,31 +1,28 @@
 // Small questions of a reader, of the files and of the pages (DECISIONS 46): each looks at no more than it is handed.
+#![tactic(auto, unfolding(crate::specs::Ask::reader_at, crate::specs::Ask::empty_says, crate::specs::Ask::flags_at))]
+
 ghost use Rattle.std.specs.Prelude.{◌≡◌};
 ghost use Rattle.state.specs.Refusals.{asked_numbers, whether_numbers};
 ghost use Rattle.state.specs.Values.{offset_in};
-ghost use Rattle.reader.specs.Ask.{reader_at, empty_says, flags_at, has_flag, with_flag, free_pages, used_pages};
+ghost use Rattle.reader.specs.Ask.{reader_at, empty_says, flags_at, with_flag, free_pages, used_pages};
 
 use crate::Reader;
-use state::types::{Asked, Refusal, State, Table, Whether};
+use state::types::{Refusal, State, Table};
+use std::array;
 
 // A new reader of a file.
-pub fn reader_of(table: Table, file: u8) -> Reader
-    ensures { result ≡ reader_at table file }
+pub fn reader_of(table: &Table, file: u8) -> Reader
+    ensures { result ≡ reader_at table.now file }
 {
-    if 7 < file {
-        return Reader { file, seq: 0 };
-    }
-    let f = table.files[file as usize];
-    Reader {
-        file,
-        seq: f.first_seq,
-    }
+    let seq = table.files.get(file as usize).map_or(0, |f| f.first_seq);
+    Reader { file, seq }
 }
 
 // How far behind the file's first number a reader stands.
-pub fn offset(table: Table, reader: Reader) -> Asked
-    ensures { asked_numbers result ≡ asked_numbers (offset_in table reader.file reader.seq) }
+pub fn offset(table: &Table, reader: Reader) -> Result<u64, Refusal>
+    ensures { asked_numbers result ≡ asked_numbers (offset_in table.now reader.file reader.seq) }
 {
-    state::values::offset_in(table, reader.file, reader.seq as u64)
+    state::values::offset_in(table, reader.file, u64::from(reader.seq))
 }
 
 pub fn curr_seq(reader: Reader) -> u32
@@ -34,60 +31,38 @@ pub fn curr_seq(reader: Reader) -> u32
     reader.seq
 }
 
-pub fn is_empty(table: Table, file: u8) -> Whether
-    ensures { whether_numbers result ≡ whether_numbers (empty_says table file) }
+pub fn is_empty(table: &Table, file: u8) -> Result<bool, Refusal>
+    ensures { whether_numbers result ≡ whether_numbers (empty_says table.now file) }
 {
-    if 7 < file {
-        return Whether::Refused(Refusal::BadFile);
+    match table.files.get(file as usize) {
+        Some(f) => Ok(f.is_empty()),
+        None => Err(Refusal::BadFile),
     }
-    let f = table.files[file as usize];
-    if f.last_page == seq::ids::NONE {
-        return Whether::Yes;
-    }
-    Whether::No
 }
 
-pub fn file_flags(table: Table, file: u8) -> u8
-    ensures { result ≡ flags_at table file }
+pub fn file_flags(table: &Table, file: u8) -> u8
+    ensures { result ≡ flags_at table.now file }
 {
-    if 7 < file {
-        return 0;
-    }
-    let f = table.files[file as usize];
-    f.flags
-}
-
-fn has_flag(table: Table, file: u8, flag: u8) -> bool
-    ensures { result ≡ has_flag table flag file }
-{
-    file_flags(table, file) & flag != 0
+    table.files.get(file as usize).map_or(0, |f| f.flags)
 }
 
 // The files that have one of the flags, by their ids.
-pub fn files_with_flag(table: Table, flag: u8) -> [bool; 8]
-    ensures { result ≡ with_flag table flag }
+#[tactic(auto, unfolding(crate::specs::Ask::flags_at))]
+pub fn files_with_flag(table: &Table, flag: u8) -> [bool; 8]
+    ensures { result ≡ with_flag table.now flag }
 {
-    [
-        has_flag(table, 0, flag),
-        has_flag(table, 1, flag),
-        has_flag(table, 2, flag),
-        has_flag(table, 3, flag),
-        has_flag(table, 4, flag),
-        has_flag(table, 5, flag),
-        has_flag(table, 6, flag),
-        has_flag(table, 7, flag),
-    ]
+    array::from_fn(|i| table.files[i].flags & flag != 0)
 }
 
-pub fn free_pages(map: &[u8], state: State) -> usize
-    ensures { result ≡ free_pages map.now state }
+pub fn free_pages(map: &[u8], state: &State) -> usize
+    ensures { result ≡ free_pages map.now state.now }
 {
     map::count_free(map, state.page_count as usize)
 }
 
 // The pages that are not free.
-pub fn used_pages(map: &[u8], state: State) -> usize
-    ensures { result ≡ used_pages map.now state }
+pub fn used_pages(map: &[u8], state: &State) -> usize
+    ensures { result ≡ used_pages map.now state.now }
 {
     (state.page_count as usize) - free_pages(map, state)
 }

@@ -7,97 +7,100 @@ ghost use Rattle.reader.specs.Locate.{located_numbers, locate};
 ghost use Rattle.reader.specs.Read.{after_read, read_told, read};
 ghost use Rattle.reader.specs.Skip.{skipped_numbers, skip, seek_offset};
 
-use state::types::{Done, Refusal, State, Table};
+use state::types::{Refusal, State, Table};
 
 pub mod ask;
 mod pages;
 mod reading;
 
-#[derive(Clone, Copy)]
+#[derive(Clone, Copy, Debug, PartialEq, Eq)]
 pub struct Reader {
     pub file: u8,
     pub seq: u32,
 }
 
 // The page of a number, and the headers read on the way.
-#[derive(Clone, Copy)]
-pub enum Located {
-    At(u16, u32),
-    Refused(Refusal),
-}
-
-// Where a reader then stands.
-#[derive(Clone, Copy)]
-pub enum Skipped {
-    To(u32),
-    Refused(Refusal),
-}
-
-// A read's answer, and where the reader then stands.
-#[derive(Clone, Copy)]
-pub struct ReadOut {
-    pub answer: Done,
-    pub reader: Reader,
+#[derive(Clone, Copy, Debug, PartialEq, Eq)]
+pub struct Located {
+    pub page: u16,
+    pub headers: u32,
 }
 
 // The page of a number, unopened: Rust's get_file_page.
-pub fn locate(image: &[u8], map: &[u8], table: Table, state: State, file: u8, seq: u32) -> Located
-    ensures { located_numbers result ≡ located_numbers (locate (before image.now map.now table state) file seq) }
+#[tactic(auto, using(crate::proofs::Exits::known_file), unfolding(crate::specs::Locate::locate))]
+pub fn locate(
+    image: &[u8],
+    map: &[u8],
+    table: &Table,
+    state: &State,
+    file: u8,
+    seq: u32,
+) -> Result<Located, Refusal>
+    ensures { located_numbers result ≡ located_numbers (locate (before image.now map.now table.now state.now) file seq) }
 {
-    let answer = state::checks::check(image.len(), map.len(), state, state.transaction, file);
-    match answer {
-        Done::Refused(why) => return Located::Refused(why),
-        Done::Done => {}
-    }
-    let f = table.files[file as usize];
+    state::checks::check(image.len(), map.len(), state, state.transaction, file)?;
+    let f = &table.files[file as usize];
     pages::locate_in(image, state.page_count as usize, f, seq)
 }
 
-// Reads as many bytes as out has, and the reader moves on behind them.
+// Reads as many bytes as out has, and the reader moves on behind them. A refused read leaves the reader where it stood, and the
+// output as it was; a Damaged one leaves the output zero.
+#[tactic(auto, using(crate::proofs::Exits::known_file), unfolding(crate::specs::Read::read))]
 pub fn read(
     image: &[u8],
     map: &[u8],
-    table: Table,
-    state: State,
-    reader: Reader,
+    table: &Table,
+    state: &State,
+    reader: &mut Reader,
     out: &mut [u8],
-) -> ReadOut
-    ensures { read_told (after_read result out.new) ≡ read_told (read (before image.now map.now table state) reader out.old) }
+) -> Result<(), Refusal>
+    ensures { read_told (after_read result reader.new out.new) ≡ read_told (read (before image.now map.now table.now state.now) reader.old out.old) }
 {
-    let file = reader.file;
-    let answer = state::checks::check(image.len(), map.len(), state, state.transaction, file);
-    match answer {
-        Done::Refused(_) => return ReadOut { answer, reader },
-        Done::Done => {}
-    }
-    let f = table.files[file as usize];
+    state::checks::check(
+        image.len(),
+        map.len(),
+        state,
+        state.transaction,
+        reader.file,
+    )?;
+    let f = &table.files[reader.file as usize];
     reading::read_in(image, state.page_count as usize, f, reader, out)
 }
 
 // Passes len numbers by, and gives where the reader then stands.
+#[tactic(auto, using(crate::proofs::Exits::known_file), unfolding(crate::specs::Skip::skip))]
 pub fn skip(
     image: &[u8],
     map: &[u8],
-    table: Table,
-    state: State,
+    table: &Table,
+    state: &State,
     reader: Reader,
     len: usize,
-) -> Skipped
-    ensures { skipped_numbers result ≡ skipped_numbers (skip (before image.now map.now table state) reader len) }
+) -> Result<u32, Refusal>
+    ensures { skipped_numbers result ≡ skipped_numbers (skip (before image.now map.now table.now state.now) reader len) }
 {
-    let file = reader.file;
-    let answer = state::checks::check(image.len(), map.len(), state, state.transaction, file);
-    match answer {
-        Done::Refused(why) => return Skipped::Refused(why),
-        Done::Done => {}
-    }
-    let f = table.files[file as usize];
+    state::checks::check(
+        image.len(),
+        map.len(),
+        state,
+        state.transaction,
+        reader.file,
+    )?;
+    let f = &table.files[reader.file as usize];
     pages::skip_in(image, state.page_count as usize, f, reader.seq, len)
 }
 
 // To an offset of the file: FileReader::seek.
-pub fn seek(image: &[u8], map: &[u8], table: Table, state: State, file: u8, offs: usize) -> Skipped
-    ensures { skipped_numbers result ≡ skipped_numbers (seek_offset (before image.now map.now table state) file offs) }
+#[tactic(auto, using(crate::proofs::Exits::seek_is))]
+pub fn seek(
+    image: &[u8],
+    map: &[u8],
+    table: &Table,
+    state: &State,
+    file: u8,
+    offs: usize,
+) -> Result<u32, Refusal>
+    ensures { skipped_numbers result ≡ skipped_numbers (seek_offset (before image.now map.now table.now state.now) file offs) }
 {
     skip(image, map, table, state, ask::reader_of(table, file), offs)
 }

@@ -1,124 +1,101 @@
-// The page of a number: located, and opened.
-ghost use Rattle.std.specs.Prelude.{◌≡◌};
-ghost use Rattle.page.specs.Page.{readable};
-ghost use Rattle.reader.specs.Locate.{locate_in};
-ghost use Rattle.reader.specs.Read.{shut, opened_by, open_at};
-ghost use Rattle.reader.specs.Skip.{landed, skip_in};
-ghost use Rattle.reader.specs.Turn.{opening};
+// The page of a number: located, and opened. The image and its count of pages travel as two parameters, as in chain: behind a
+// struct that held the reference each clause would read `p.entry.image.now`.
+#![tactic(auto, unfolding(crate::specs::Turn::behind, crate::specs::Locate::locate_in, crate::specs::Skip::landed, crate::specs::Skip::skip_in))]
 
-use crate::{Located, Skipped};
-use page::DataHeader;
+ghost use Rattle.std.specs.Prelude.{◌≡◌, ◌+◌, IfOk};
+ghost use Rattle.reader.specs.Locate.{locate_in};
+ghost use Rattle.reader.specs.Read.{open_at};
+ghost use Rattle.reader.specs.Skip.{landed, skip_in};
+ghost use Rattle.reader.specs.Turn.{opening, behind};
+
+use crate::Located;
 use state::types::{FileRecord, Refusal};
 
 // An opened page, for a number that it holds: where the number's byte stands in the payload, and how many bytes there are from
-// it up to the end. All 0 where no page opens.
+// it up to the end.
 #[derive(Clone, Copy)]
 pub struct Opening {
-    pub ok: bool,
     pub page: u16,
-    pub off: u32,
+    pub offset: u32,
     pub left: u32,
 }
 
-fn shut(seq: u32) -> Opening
-    ensures { result ≡ opening seq shut }
+// The number behind n of the file's numbers from seq on. Locate, read and skip all check so, in this order; locate asks for one
+// number, and one is never Short.
+pub fn behind(f: &FileRecord, seq: u32, n: usize) -> Result<u32, Refusal>
+    ensures answer { result ≡ behind f.now seq n }
+    ensures end { IfOk result (λ end. end ≡ seq + n) }
 {
-    Opening {
-        ok: false,
-        page: 0,
-        off: 0,
-        left: 0,
+    if seq < f.first_seq {
+        return Err(Refusal::Gone);
     }
-}
-
-// A page whose header reads, opened.
-fn open_by(page: u16, h: DataHeader, seq: u32) -> Opening
-    ensures { result ≡ opening seq (opened_by page seq (readable h)) }
-{
-    if seq < h.seq {
-        return shut(seq);
+    if f.last_seq <= seq {
+        return Err(Refusal::Eof);
     }
-    let off = seq - h.seq;
-    let length = h.length as u32;
-    if length <= off {
-        return shut(seq);
+    if ((f.last_seq - seq) as usize) < n {
+        return Err(Refusal::Short);
     }
-    Opening {
-        ok: true,
-        page,
-        off,
-        left: length - off,
-    }
+    Ok(seq + (n as u32))
 }
 
 // The located page of a number, opened: its header is read from the image, and it holds the number.
-pub fn open_at(image: &[u8], count: usize, f: FileRecord, seq: u32) -> Opening
-    ensures { result ≡ opening seq (open_at image.now count f seq) }
+#[tactic(auto, using(crate::proofs::Exits::open_unread, crate::proofs::Exits::open_below, crate::proofs::Exits::open_past, crate::proofs::Exits::open_held), unfolding(crate::specs::Read::open_at))]
+pub fn open_at(image: &[u8], count: usize, f: &FileRecord, seq: u32) -> Option<Opening>
+    ensures { result ≡ opening seq (open_at image.now count f.now seq) }
 {
-    let found = chain::prev_seq(image, count, chain::last_of(f), seq);
-    if !found.ok {
-        return shut(seq);
+    let found = chain::prev_seq(image, count, chain::last_of(f), seq)?;
+    let page = found.page.page_id;
+    let header = page::header_at(image, page as usize)?;
+    let offset = seq.checked_sub(header.seq)?;
+    let length = u32::from(header.length);
+    if length <= offset {
+        return None;
     }
-    let page = found.page;
-    let id = page.page_id;
-    let read = page::header_at(image, id as usize);
-    if !read.ok {
-        return shut(seq);
-    }
-    let h = read.header;
-    open_by(id, h, seq)
+    Some(Opening {
+        page,
+        offset,
+        left: length - offset,
+    })
 }
 
-pub fn locate_in(image: &[u8], count: usize, f: FileRecord, seq: u32) -> Located
-    ensures { result ≡ locate_in image.now count f seq }
+pub fn locate_in(image: &[u8], count: usize, f: &FileRecord, seq: u32) -> Result<Located, Refusal>
+    ensures { result ≡ locate_in image.now count f.now seq }
 {
-    if seq < f.first_seq {
-        return Located::Refused(Refusal::Gone);
+    behind(f, seq, 1)?;
+    if !state::values::in_shape(f, count) {
+        return Err(Refusal::Damaged);
     }
-    if f.last_seq <= seq {
-        return Located::Refused(Refusal::Eof);
-    }
-    if state::values::in_shape(f, count) {
-        let found = chain::prev_seq(image, count, chain::last_of(f), seq);
-        if found.ok {
-            let page = found.page;
-            return Located::At(page.page_id, found.count);
-        }
-    }
-    Located::Refused(Refusal::Damaged)
+    let found = chain::prev_seq(image, count, chain::last_of(f), seq).ok_or(Refusal::Damaged)?;
+    Ok(Located {
+        page: found.page.page_id,
+        headers: found.count,
+    })
 }
 
 // A reader comes to seq: below last_seq it opens the page there.
-fn land(image: &[u8], count: usize, f: FileRecord, seq: u32) -> Skipped
-    ensures { result ≡ landed image.now count f seq }
+fn land(image: &[u8], count: usize, f: &FileRecord, seq: u32) -> Result<u32, Refusal>
+    ensures { result ≡ landed image.now count f.now seq }
 {
-    if seq == f.last_seq {
-        return Skipped::To(seq);
+    if seq == f.last_seq
+        || state::values::in_shape(f, count) && open_at(image, count, f, seq).is_some()
+    {
+        return Ok(seq);
     }
-    if state::values::in_shape(f, count) {
-        let page = open_at(image, count, f, seq);
-        if page.ok {
-            return Skipped::To(seq);
-        }
-    }
-    Skipped::Refused(Refusal::Damaged)
+    Err(Refusal::Damaged)
 }
 
-pub fn skip_in(image: &[u8], count: usize, f: FileRecord, seq: u32, len: usize) -> Skipped
-    ensures { result ≡ skip_in image.now count f seq len }
+pub fn skip_in(
+    image: &[u8],
+    count: usize,
+    f: &FileRecord,
+    seq: u32,
+    len: usize,
+) -> Result<u32, Refusal>
+    ensures { result ≡ skip_in image.now count f.now seq len }
 {
     if len == 0 {
-        return Skipped::To(seq);
+        return Ok(seq);
     }
-    if seq < f.first_seq {
-        return Skipped::Refused(Refusal::Gone);
-    }
-    if f.last_seq <= seq {
-        return Skipped::Refused(Refusal::Eof);
-    }
-    let rest = (f.last_seq - seq) as usize;
-    if rest < len {
-        return Skipped::Refused(Refusal::Short);
-    }
-    land(image, count, f, seq + (len as u32))
+    let end = behind(f, seq, len)?;
+    land(image, count, f, end)
 }

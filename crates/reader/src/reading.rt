@@ -1,104 +1,54 @@
 // A read: one page after the other, each located, opened, and copied from up to its end.
-ghost use Rattle.std.specs.Prelude.{◌≡◌, ◌+◌, ◌<◌, min, length};
-ghost use Rattle.reader.specs.Read.{none, bytes_from, after_read, read_by, read_in};
-ghost use Rattle.reader.specs.Turn.{turn, turned};
+ghost use Rattle.std.specs.Prelude.{◌≡◌, ◌+◌, ◌<◌, length};
+ghost use Rattle.reader.specs.Read.{bytes_from, after_read, read_in};
+ghost use Rattle.reader.specs.Turn.{turn, turned, all_of};
 
-use crate::{ReadOut, Reader};
-use state::types::{Done, FileRecord, Refusal};
+use crate::Reader;
+use state::types::{FileRecord, Refusal};
 
-fn least(a: usize, b: usize) -> usize
-    ensures { result ≡ min a b }
+// The bytes of one page go into the front of out: how many.
+#[tactic(auto, using(crate::proofs::Bytes::turn_shut, crate::proofs::Bytes::turn_fits, crate::proofs::Bytes::turn_shown))]
+fn read_page(image: &[u8], count: usize, f: &FileRecord, seq: u32, out: &mut [u8]) -> Option<usize>
+    ensures { turn result out.new ≡ turned image.now count f.now seq out.old }
 {
-    if a <= b { a } else { b }
+    let opened = crate::pages::open_at(image, count, f, seq)?;
+    let n = out.len().min(opened.left as usize);
+    let bytes = page::payload_at(image, opened.page as usize, opened.offset as usize, n);
+    out[..n].copy_from_slice(bytes);
+    Some(n)
 }
 
-// The bytes of one page go into out from done on: how many, and 0 where no page opens.
-fn read_page(
-    image: &[u8],
-    count: usize,
-    f: FileRecord,
-    seq: u32,
-    out: &mut [u8],
-    done: usize,
-) -> usize
-    requires { done < length out.old }
-    ensures { turn result out.new ≡ turned image.now count f seq done out.old }
+// All of out, page by page. No `for` fits: each page says where the next one starts.
+fn read_bytes(image: &[u8], count: usize, f: &FileRecord, seq: u32, out: &mut [u8]) -> Option<()>
+    requires { seq + length out.old < 4294967296 }
+    ensures { all_of result out.new ≡ bytes_from image.now count f.now (length out.old) seq (length out.old) }
 {
-    let page = crate::pages::open_at(image, count, f, seq);
-    if page.ok {
-        let n = least(out.len() - done, page.left as usize);
-        let id = page.page as usize;
-        runs::place(out, done, page::payload_at(image, id, page.off as usize, n));
-        return n;
+    let mut done = 0;
+    while done < out.len() {
+        done += read_page(image, count, f, seq + (done as u32), &mut out[done..])?;
     }
-    0
+    Some(())
 }
 
 // The output of a Damaged read is all zero.
-fn damaged(reader: Reader, out: &mut [u8]) -> ReadOut
-    ensures { after_read result out.new ≡ read_by reader out.old none }
+#[tactic(auto, using(crate::proofs::Exits::read_none, crate::proofs::Exits::read_refused_in, crate::proofs::Bytes::read_whole, crate::proofs::Bytes::read_zero, crate::proofs::Bytes::read_lost))]
+pub fn read_in(
+    image: &[u8],
+    count: usize,
+    f: &FileRecord,
+    reader: &mut Reader,
+    out: &mut [u8],
+) -> Result<(), Refusal>
+    ensures { after_read result reader.new out.new ≡ read_in image.now count f.now reader.old out.old }
 {
-    runs::fill(out, 0);
-    ReadOut {
-        answer: Done::Refused(Refusal::Damaged),
-        reader,
+    if out.is_empty() {
+        return Ok(());
     }
-}
-
-// All of out, page by page.
-fn read_bytes(image: &[u8], count: usize, f: FileRecord, reader: Reader, out: &mut [u8]) -> ReadOut
-    requires { reader.seq + length out.old < 4294967296 }
-    ensures { after_read result out.new ≡ read_by reader out.old (bytes_from image.now count f (length out.old) reader.seq (length out.old)) }
-{
-    let mut done: usize = 0;
-    while done < out.len() {
-        let n = read_page(image, count, f, reader.seq + (done as u32), out, done);
-        if n == 0 {
-            return damaged(reader, out);
-        }
-        done += n;
+    let end = crate::pages::behind(f, reader.seq, out.len())?;
+    if state::values::in_shape(f, count) && read_bytes(image, count, f, reader.seq, out).is_some() {
+        reader.seq = end;
+        return Ok(());
     }
-    ReadOut {
-        answer: Done::Done,
-        reader: Reader {
-            file: reader.file,
-            seq: reader.seq + (done as u32),
-        },
-    }
-}
-
-pub fn read_in(image: &[u8], count: usize, f: FileRecord, reader: Reader, out: &mut [u8]) -> ReadOut
-    ensures { after_read result out.new ≡ read_in image.now count f reader out.old }
-{
-    let n = out.len();
-    let seq = reader.seq;
-    if n == 0 {
-        return ReadOut {
-            answer: Done::Done,
-            reader,
-        };
-    }
-    if seq < f.first_seq {
-        return ReadOut {
-            answer: Done::Refused(Refusal::Gone),
-            reader,
-        };
-    }
-    if f.last_seq <= seq {
-        return ReadOut {
-            answer: Done::Refused(Refusal::Eof),
-            reader,
-        };
-    }
-    let rest = (f.last_seq - seq) as usize;
-    if rest < n {
-        return ReadOut {
-            answer: Done::Refused(Refusal::Short),
-            reader,
-        };
-    }
-    if state::values::in_shape(f, count) {
-        return read_bytes(image, count, f, reader, out);
-    }
-    damaged(reader, out)
+    out.fill(0);
+    Err(Refusal::Damaged)
 }

@@ -1,21 +1,14 @@
 -- What the loops of this crate rest on: a list from an index on, a run that is stored byte by byte, and each definition at its next
 -- element. Assumes nothing.
-use Prim.Native.Nat.{ℕ, zero, suc, ◌+◌, ◌-◌, ◌*◌, ◌/◌, ◌%◌, ◌≤◌, ◌<◌}
-use mathlib.Core.Path.{◌≡◌, refl, sym, ap, ◌∙◌}
-use mathlib.Core.List.{List, [], ◌∷◌, ◌++◌, append-nil, append_assoc}
-use mathlib.Core.Bool.{true, false, cond}
-use native.Mathlib.Nat.{add-zero, le_of_suc-le-suc, not-suc-le-zero}
-use native.Mathlib.Numerals.{add-one}
-use native.Mathlib.Omega.{arith}
-use lib.ListN.{length, take, drop, get_or, set, take-append-drop, length-drop, length-set, drop_of_length-le}
-use lib.Seq.{take-suc, drop-cons, take-suc-set, drop-set-lt, get_or-drop}
-use lib.Dec.{ltb, eqb}
-use borrow.Author.Tests.{ltb-true}
+use Rattle.std.proofs.Common.{ℕ, zero, suc, ◌+◌, ◌-◌, ◌*◌, ◌/◌, ◌%◌, ◌≤◌, ◌<◌, ◌≡◌, refl, sym, ap, ◌∙◌, List, [], ◌∷◌, ◌++◌, append_assoc, Bool, true, false, cond, add-one, arith, length, take, drop, get_or, set, drop-cons, ltb, eqb, Option, Some, None, MatchOption, ltb-true, ltb-false, lt-ltb, le-ltb}
+use native.Mathlib.Nat.{add-zero}
+use lib.ListN.{take-append-drop, length-set}
+use lib.Seq.{take-suc-set, drop-set-lt}
+use Rattle.std.specs.List.{position_or_len}
 use Rattle.runs.specs.Runs.{splice}
-use Rattle.runs.proofs.Laws.{cond_same, cond_by}
-use Rattle.script.specs.declared.bytes.Number.TheVariants.{Is, Bad}
-use Rattle.script.specs.Text.{until, same, hex_digit, hex_digits}
-use Rattle.script.specs.Bytes.{more, digits, hex_value, all_hex, bytes_of, next_byte, ramp, adler}
+use Rattle.runs.proofs.Laws.{rest_drop}
+use Rattle.script.specs.Text.{until, has, rest, words, words_of, hex_digit, hex_digits}
+use Rattle.script.specs.Bytes.{more, digits, digit_of, bytes_of, next_byte, ramp, adler}
 
 -- ---- lists
 
@@ -39,81 +32,108 @@ splice_none l o = rw add-zero (take-append-drop o l)
 
 -- ---- texts
 
-module _ (b : ℕ) (s : List ℕ) (from i : ℕ) (low : from ≤ i) (high : i < length s) where
-  -- the part from `from` to i, with the byte at i, is the part to i + 1
-  part_more : take (i - from) (drop from s) ++ (get_or s i 0 ∷ []) ≡ take (i + 1 - from) (drop from s)
-  part_more =
-      let k : i - from < length (drop from s) = simp length-drop (omega arith) in
-      let e : from + (i - from) ≡ i = omega arith in
-      let f : i + 1 - from ≡ suc (i - from) = omega arith in
-      rw (f, take-suc (drop from s) (i - from) 0 k, get_or-drop from s (i - from) 0, e)
+-- a test, either way
+by_test {ℓ} : {X : Type ℓ} (t : Bool) → (t ≡ true → X) → (t ≡ false → X) → X
+by_test true f g = f refl
+by_test false f g = g refl
 
-  -- a byte that is not b: the search goes on behind it
-  pub until_more : eqb (get_or s i 0) b ≡ false → take (i - from) (drop from s) ++ until b (drop i s) ≡ take (i + 1 - from) (drop from s) ++ until b (drop (i + 1) s)
-  unfolding until
-  until_more e =
-      rw (here s i high, e, ← part_more) (sym (append_assoc (take (i - from) (drop from s)) (get_or s i 0 ∷ []) (until b (drop (i + 1) s))))
+-- a text up to the first b, by that byte's place
+until_take : (b : ℕ) (s : List ℕ) → until b s ≡ take (position_or_len (λ x. eqb x b) s) s
+unfolding until
+until_take b [] = refl
+until_take b (x ∷ s) =
+    let p = position_or_len (λ y. eqb y b) s in
+    let one-add : 1 + p ≡ suc p = omega arith in
+    by_test (eqb x b) (λ t. rw t) (λ t. rw (t, one-add) (ap (λ r. x ∷ r) (until_take b s)))
 
-  -- a byte that is b ends the part
-  pub until_hit : eqb (get_or s i 0) b ≡ true → take (i - from) (drop from s) ++ until b (drop i s) ≡ take (i - from) (drop from s)
-  unfolding until
-  until_hit e = rw (here s i high, e) (append-nil _)
+length-until : (b : ℕ) (s : List ℕ) → length (until b s) ≡ position_or_len (λ x. eqb x b) s
+unfolding until
+length-until b [] = refl
+length-until b (x ∷ s) =
+    let p = position_or_len (λ y. eqb y b) s in
+    let one-add : 1 + p ≡ suc p = omega arith in
+    by_test (eqb x b) (λ t. rw t) (λ t. rw (t, one-add) (ap suc (length-until b s)))
 
--- texts of two lengths are two
-pub same_apart : (s t : List ℕ) → (length s ≡ length t → ⊥) → same s t ≡ false
-unfolding same
-same_apart [] [] h = absurd (h refl)
-same_apart [] (y ∷ t) h = refl
-same_apart (x ∷ s) [] h = refl
-same_apart (x ∷ s) (y ∷ t) h = rw (same_apart s t (λ e. h (ap suc e))) (cond_same (eqb x y) false)
+until_all : (b : ℕ) (s : List ℕ) → length s ≤ length (until b s) → until b s ≡ s
+unfolding until
+until_all b [] h = refl
+until_all b (x ∷ s) h =
+    by_test (eqb x b) (λ t. absurd (omega (arith, rw t at h))) (λ t. rw t (ap (λ r. x ∷ r) (until_all b s (omega (arith, rw t at h)))))
 
--- two texts are one at an index and behind it
-pub same_more : (s t : List ℕ) (i : ℕ) → i < length s → i < length t → same (drop i s) (drop i t) ≡ cond (eqb (get_or s i 0) (get_or t i 0)) (same (drop (i + 1) s) (drop (i + 1) t)) false
-unfolding same
-same_more s t i h k = rw (here s i h, here t i k)
+-- what the place of the first b says of the text in front of it, and of what is behind it
+abbrev place_of : ℕ → List ℕ → Option ℕ
+place_of b s = cond (ltb (position_or_len (λ x. eqb x b) s) (length s)) (Some (position_or_len (λ x. eqb x b) s)) None
+
+abbrev Cuts : ℕ → List ℕ → Option ℕ → Type 0
+Cuts b s r = MatchOption r ((s ≡ until b s) × (None ≡ rest b s)) (λ i. (take i s ≡ until b s) × (Some (take (length s - (i + 1)) (drop (i + 1) s)) ≡ rest b s))
+
+cut_place : (b : ℕ) (s : List ℕ) → Cuts b s (place_of b s)
+cut_place b s =
+    let n = length-until b s in
+    by_test (ltb (position_or_len (λ x. eqb x b) s) (length s))
+    (λ t. rw t (sym (until_take b s), rw (n, t, rest_drop)))
+    (λ t. let h : length s ≤ length (until b s) = rw n (ltb-false _ _ t) in rw t (sym (until_all b s h), rw (n, t)))
+
+pub cut_by : (b : ℕ) (s : List ℕ) (r : Option ℕ) → r ≡ place_of b s → Cuts b s r
+cut_by b s r e = rw e (cut_place b s)
+
+-- what is behind the first b of a text, by that of its rest
+rest_hit : (b x : ℕ) (l : List ℕ) → eqb x b ≡ true → rest b (x ∷ l) ≡ Some l
+unfolding until
+rest_hit b x l t = let k : 0 < suc (length l) = omega arith in rw (t, lt-ltb _ _ k)
+
+rest_miss : (b x : ℕ) (l : List ℕ) → eqb x b ≡ false → rest b (x ∷ l) ≡ rest b l
+unfolding until
+rest_miss b x l t =
+    let n = length (until b l) in
+    let k : suc n + 1 ≡ suc (n + 1) = omega arith in
+    by_test (has b l)
+    (λ h. let g : n < length l = ltb-true _ _ h in let f : suc n < suc (length l) = omega arith in rw (t, h, lt-ltb _ _ f, k))
+    (λ h. let g : length l ≤ n = ltb-false _ _ h in let f : suc (length l) ≤ suc n = omega arith in rw (t, h, le-ltb _ _ f))
+
+first_hit : (x : ℕ) (l : List ℕ) → eqb x 32 ≡ true → words (x ∷ l) ≡ until 32 (x ∷ l) ∷ words l
+unfolding words until
+first_hit x l t = rw t
+
+-- the first word, and those behind it
+pub words_first : (l : List ℕ) → words l ≡ until 32 l ∷ words_of (rest 32 l)
+unfolding words until
+words_first [] = refl
+words_first (x ∷ l) =
+    let e = words_first l in
+    by_test (eqb x 32)
+    (λ t. rw (rest_hit 32 x l t) (first_hit x l t))
+    (λ t. rw (rest_miss 32 x l t, t, e))
 
 pub hex_length : (l : List ℕ) → length (hex_digits l) ≡ 2 * length l
 unfolding hex_digits
 hex_length [] = refl
 hex_length (x ∷ l) = let e = hex_length l in omega arith
 
-pub hex_more : (l : List ℕ) (i : ℕ) → i < length l → hex_digits (drop i l) ≡ hex_digit (get_or l i 0 / 16) ∷ hex_digit (get_or l i 0 % 16) ∷ hex_digits (drop (i + 1) l)
+hex_more : (l : List ℕ) (i : ℕ) → i < length l → hex_digits (drop i l) ≡ hex_digit (get_or l i 0 / 16) ∷ hex_digit (get_or l i 0 % 16) ∷ hex_digits (drop (i + 1) l)
 unfolding hex_digits
 hex_more l i h = rw (here l i h)
 
 -- a byte's two digits are stored, and the others go behind them
-pub hex_stored : (out l : List ℕ) (o i x y : ℕ) → i < length l → o + 1 < length out → x ≡ hex_digit (get_or l i 0 / 16) → y ≡ hex_digit (get_or l i 0 % 16)
-    → splice (set (set out o x) (o + 1) y) (o + 2) (hex_digits (drop (i + 1) l)) ≡ splice out o (hex_digits (drop i l))
-hex_stored out l o i x y h k e f =
+pub hex_stored : (out l : List ℕ) (o p i x y : ℕ) → i < length l → o + 1 < length out → p ≡ o + 2 → x ≡ hex_digit (get_or l i 0 / 16) → y ≡ hex_digit (get_or l i 0 % 16)
+    → splice (set (set out o x) (o + 1) y) p (hex_digits (drop (i + 1) l)) ≡ splice out o (hex_digits (drop i l))
+hex_stored out l o p i x y h k q e f =
     let r = hex_digits (drop (i + 1) l) in
-    let two : o + 2 ≡ o + 1 + 1 = omega arith in
+    let two : p ≡ o + 1 + 1 = omega arith in
     let in₁ : o + 1 < length (set out o x) = simp length-set k in
     let in₀ : o < length out = omega arith in
     rw two (splice_more (set out o x) (o + 1) y r in₁ ∙ splice_more out o x (y ∷ r) in₀ ∙ rw (hex_more l i h, e, f))
 
 -- ---- numbers and runs
 
-pub digits_bad : (l : List ℕ) → digits Bad l ≡ Bad
+pub digits_bad : (l : List ℕ) → digits None l ≡ None
 unfolding digits
 digits_bad [] = refl
 digits_bad (d ∷ l) = refl
 
-pub digits_more : (v : ℕ) (s : List ℕ) (i : ℕ) → i < length s → digits (Is v) (drop i s) ≡ digits (more v (get_or s i 0)) (drop (i + 1) s)
+pub digits_more : (v : ℕ) (s : List ℕ) (i : ℕ) → i < length s → digits (Some v) (drop i s) ≡ digits (more v (get_or s i 0)) (drop (i + 1) s)
 unfolding digits
 digits_more v s i h = rw (here s i h)
-
-pub hex_all_more : (s : List ℕ) (i : ℕ) → i < length s → all_hex (drop i s) ≡ cond (ltb (hex_value (get_or s i 0)) 16) (all_hex (drop (i + 1) s)) false
-unfolding all_hex
-hex_all_more s i h = rw (here s i h)
-
--- in a word of hex digits every byte is one
-pub hex_at : (s : List ℕ) (i : ℕ) → all_hex s ≡ true → i < length s → hex_value (get_or s i 0) < 16
-unfolding all_hex
-hex_at [] i e h = absurd (not-suc-le-zero h)
-hex_at (d ∷ l) zero e h =
-    cond_by (ltb (hex_value d) 16) (all_hex l) false true e (λ t r. ltb-true _ _ t) (λ t r. let z : ◌≡◌ {A = ℕ} 0 1 = cc in omega arith)
-hex_at (d ∷ l) (suc i) e h =
-    cond_by (ltb (hex_value d) 16) (all_hex l) false true e (λ t r. hex_at l i r (le_of_suc-le-suc h)) (λ t r. let z : ◌≡◌ {A = ℕ} 0 1 = cc in absurd (omega arith))
 
 pub bytes_length : (l : List ℕ) → length (bytes_of l) ≡ length l / 2
 unfolding bytes_of
@@ -121,33 +141,32 @@ bytes_length [] = refl
 bytes_length (a ∷ []) = refl
 bytes_length (a ∷ b ∷ l) = let e = bytes_length l in omega arith
 
-pub bytes_more : (s : List ℕ) (i : ℕ) → i + 1 < length s → bytes_of (drop i s) ≡ (hex_value (get_or s i 0) * 16 + hex_value (get_or s (i + 1) 0)) ∷ bytes_of (drop (i + 2) s)
+bytes_more : (s : List ℕ) (i j : ℕ) → i + 1 < length s → j ≡ i + 2 → bytes_of (drop i s) ≡ (digit_of (get_or s i 0) * 16 + digit_of (get_or s (i + 1) 0)) ∷ bytes_of (drop j s)
 unfolding bytes_of
-bytes_more s i h =
+bytes_more s i j h q =
     let k : i < length s = omega arith in
-    let e : i + 1 + 1 ≡ i + 2 = omega arith in
+    let e : i + 1 + 1 ≡ j = omega arith in
     rw (here s i k, here s (i + 1) h, e)
 
-pub bytes_end : (s : List ℕ) (i : ℕ) → length s ≤ i → bytes_of (drop i s) ≡ []
-unfolding bytes_of
-bytes_end s i h = rw (drop_of_length-le s h)
-
 -- a pair's byte is stored, and the others go behind it
-pub byte_stored : (out s : List ℕ) (o i x : ℕ) → i + 1 < length s → o < length out → x ≡ hex_value (get_or s i 0) * 16 + hex_value (get_or s (i + 1) 0)
-    → splice (set out o x) (o + 1) (bytes_of (drop (i + 2) s)) ≡ splice out o (bytes_of (drop i s))
-byte_stored out s o i x h k e = splice_more out o x (bytes_of (drop (i + 2) s)) k ∙ rw (bytes_more s i h, e)
+pub byte_stored : (out s : List ℕ) (o i j x : ℕ) → i + 1 < length s → o < length out → j ≡ i + 2 → x ≡ digit_of (get_or s i 0) * 16 + digit_of (get_or s (i + 1) 0)
+    → splice (set out o x) (o + 1) (bytes_of (drop j s)) ≡ splice out o (bytes_of (drop i s))
+byte_stored out s o i j x h k q e = splice_more out o x (bytes_of (drop j s)) k ∙ rw (bytes_more s i j h q, e)
 
 pub ramp_length : (n b : ℕ) → length (ramp n b) ≡ n
 unfolding ramp
 ramp_length zero b = refl
 ramp_length (suc n) b = ap suc (ramp_length n (next_byte b))
 
-pub ramp_more : (n i b : ℕ) → i < n → ramp (n - i) b ≡ b ∷ ramp (n - (i + 1)) (next_byte b)
+ramp_more : (n i b : ℕ) → i < n → ramp (n - i) b ≡ b ∷ ramp (n - (i + 1)) (next_byte b)
 unfolding ramp
 ramp_more n i b h = let e : n - i ≡ suc (n - (i + 1)) = omega arith in rw e
 
-pub ramp_stored : (out : List ℕ) (n i b : ℕ) → i < n → i < length out → splice (set out i b) (i + 1) (ramp (n - (i + 1)) (next_byte b)) ≡ splice out i (ramp (n - i) b)
-ramp_stored out n i b h k = splice_more out i b (ramp (n - (i + 1)) (next_byte b)) k ∙ rw (ramp_more n i b h)
+-- a byte of a ramp is stored, and the others go behind it
+pub ramp_stored : (out : List ℕ) (i b c : ℕ) → i < length out → c ≡ next_byte b
+    → splice (set out i b) (i + 1) (ramp (length (set out i b) - (i + 1)) c) ≡ splice out i (ramp (length out - i) b)
+ramp_stored out i b c h e =
+    rw (e, length-set, ramp_more (length out) i b h) (splice_more out i b (ramp (length out - (i + 1)) (next_byte b)) h)
 
 pub adler_more : (a b : ℕ) (s : List ℕ) (i : ℕ) → i < length s → adler a b (drop i s) ≡ adler ((a + get_or s i 0) % 65521) ((b + (a + get_or s i 0) % 65521) % 65521) (drop (i + 1) s)
 unfolding adler

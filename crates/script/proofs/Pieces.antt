@@ -1,58 +1,17 @@
--- What answers rest on: texts put behind each other, a number's digits, and the parts of a form. Assumes nothing.
-use Prim.Native.Nat.{ℕ, zero, suc, ◌+◌, ◌-◌, ◌*◌, ◌/◌, ◌%◌, ◌^◌, ◌≤◌, ◌<◌}
-use mathlib.Core.Path.{◌≡◌, refl, sym, ◌∙◌}
-use mathlib.Core.List.{List, [], ◌∷◌, ◌++◌}
-use mathlib.Core.Bool.{true, false}
+-- What answers rest on: a number's digits, and texts put behind each other. Assumes nothing.
+use Rattle.std.proofs.Common.{ℕ, zero, suc, ◌+◌, ◌-◌, ◌*◌, ◌/◌, ◌%◌, ◌^◌, ◌≤◌, ◌<◌, ◌≡◌, refl, sym, ◌∙◌, List, [], ◌∷◌, ◌++◌, arith, lt-ltb, le-ltb, Some, None, is_some, ap}
 use native.Mathlib.Decide.{dec_le}
-use native.Mathlib.Nat.{add-zero, lt_of_not-le, mod-eq_of_lt, pow-suc, pow-le-pow_right}
-use native.Mathlib.Omega.{arith}
-use lib.ListN.{length, drop, get_or, drop_of_length-le}
-use lib.Seq.{drop-drop}
+use native.Mathlib.Nat.{lt_of_not-le, mod-eq_of_lt, pow-suc, pow-le-pow_right}
 use lib.Dec.{lit<}
-use borrow.Author.Tests.{le-leb, lt-leb, lt-ltb, le-ltb}
 use Rattle.io.specs.Digits.{IsDigitCount}
 use Rattle.io.specs.Digits as io
-use Rattle.runs.proofs.Laws.{tab_drop, length_splice, placed_in, placed_out}
-use Rattle.script.specs.Text.{until, has, beyond, behind, Spot, put, puts}
+use Rattle.std.proofs.lemmas.Bool.{false≢true}
+use Rattle.runs.proofs.Laws.{cond_by}
+use Rattle.script.specs.Text.{until, has, beyond, rest, Spot, put, puts}
 use Rattle.script.specs.Say.{digits, decimal, formed}
 use Rattle.script.specs.Show.{lines}
-use Rattle.script.proofs.Laws.{splice_none}
-
--- ---- texts put behind each other
-
--- what is put ends in the buffer
-put_in : (s : Spot) (t : List ℕ) → (put s t).at ≤ length (put s t).buffer
-unfolding put behind
-put_in s t = elim (dec_le (s.at + length t) (length s.buffer)) [
-  | yes h ↦ rw (placed_in s.buffer s.at t h, le-leb _ _ h, length_splice s.buffer s.at t h) h
-  | no h ↦ let k : length s.buffer < s.at + length t = lt_of_not-le h in rw (placed_out s.buffer s.at t k, lt-leb _ _ k) (omega arith)
-]
-
--- no text, put in the buffer, changes nothing
-put_none : (s : Spot) → s.at ≤ length s.buffer → put s [] ≡ s
-unfolding put behind
-put_none s h =
-    let k : s.at + 0 ≤ length s.buffer = omega arith in
-    rw (placed_in s.buffer s.at [] k, le-leb _ _ k, splice_none s.buffer s.at, add-zero)
-
--- nor does it behind a text
-pub put_twice : (s : Spot) (t : List ℕ) → put (put s t) [] ≡ put s t
-put_twice s t = put_none (put s t) (put_in s t)
-
-pub puts_more : (s : Spot) (a b : List (List ℕ)) → puts s (a ++ b) ≡ puts (puts s a) b
-unfolding puts
-puts_more s [] b = refl
-puts_more s (t ∷ a) b = puts_more (put s t) a b
-
--- texts, and others behind them
-pub puts_then : (s t u : Spot) (a b : List (List ℕ)) → t ≡ puts s a → u ≡ puts t b → u ≡ puts s (a ++ b)
-puts_then s t u a b e f = f ∙ rw e (sym (puts_more s a b))
 
 -- ---- numbers
-
--- nine numbers are a list of nine
-pub nine : (l : List ℕ) → length l ≡ 9 → get_or l 0 0 ∷ get_or l 1 0 ∷ get_or l 2 0 ∷ get_or l 3 0 ∷ get_or l 4 0 ∷ get_or l 5 0 ∷ get_or l 6 0 ∷ get_or l 7 0 ∷ get_or l 8 0 ∷ [] ≡ l
-nine l h = tab_drop l 0 9 (sym h)
 
 -- a power of ten above 1
 ten : (k n : ℕ) → 10 ^ suc k ≤ n → 10 ≤ n
@@ -94,35 +53,34 @@ few n k h w = elim (dec_le k 20) [
 pub decimal_is : (n k : ℕ) → n < 2 ^ 64 → IsDigitCount 10 1 n k → io.last_digits 10 k n ≡ decimal n
 decimal_is n k h w = fewest_are 20 k n (few n k h w) w
 
--- ---- a form's next part
+-- ---- forms
 
-pub drop_all : (l : List ℕ) → drop (length l) l ≡ []
-drop_all l = let h : length l ≤ length l = omega arith in drop_of_length-le l h
+-- a form's part up to its next mark, with the number in its place, and what is left of it
+pub form_next : (s : Spot) (f r : List ℕ) (n : ℕ) (ns : List ℕ) → Some r ≡ rest 37 f → puts (put (put s (until 37 f)) (decimal n)) (formed r ns) ≡ puts s (formed f (n ∷ ns))
+unfolding formed
+form_next s f r n ns e =
+    cond_by (has 37 f) (Some (beyond 37 f)) None (Some r) (sym e) (λ t q. rw t (cc q)) (λ t q. absurd (false≢true (ap is_some q)))
 
--- what is behind the next mark from an index on
-pub beyond_from : (l : List ℕ) (from n : ℕ) → length (until 37 (drop from l)) ≡ n → beyond 37 (drop from l) ≡ drop (from + n + 1) l
-beyond_from l from n h = let e : from + (n + 1) ≡ from + n + 1 = omega arith in rw (h, drop-drop (n + 1) from l, e)
+-- nothing is left of it where there is no mark
+pub form_last : (s : Spot) (f : List ℕ) (n : ℕ) (ns : List ℕ) → None ≡ rest 37 f → put s (until 37 f) ≡ puts s (formed f (n ∷ ns))
+unfolding formed
+form_last s f n ns e =
+    cond_by (has 37 f) (Some (beyond 37 f)) None None (sym e) (λ t q. absurd (false≢true (sym (ap is_some q)))) (λ t q. rw t)
 
--- nothing is left of a form where there is no mark
-pub part_none : (s : Spot) (f : List ℕ) (n : ℕ) (ns : List ℕ) → has 37 f ≡ false → puts (put s (until 37 f)) (formed [] ns) ≡ puts s (formed f (n ∷ ns))
-unfolding formed until puts
-part_none s f n [] h = rw h (put_twice s (until 37 f))
-part_none s f n (m ∷ ns) h = rw h (put_twice s (until 37 f))
+-- ---- texts put behind each other
 
-pub part_some : (s : Spot) (f : List ℕ) (n : ℕ) (ns : List ℕ) → has 37 f ≡ true → puts (put (put s (until 37 f)) (decimal n)) (formed (beyond 37 f) ns) ≡ puts s (formed f (n ∷ ns))
-unfolding formed puts
-part_some s f n ns h = rw h
-
--- ---- lines
+pub puts_more : (s : Spot) (a b : List (List ℕ)) → puts s (a ++ b) ≡ puts (puts s a) b
+puts_more s [] b = refl
+puts_more s (t ∷ a) b = puts_more (put s t) a b
 
 lines_more : (f : ℕ → List (List ℕ)) (i n : ℕ) → i < n → lines f i (n - i) ≡ f i ++ lines f (i + 1) (n - (i + 1))
 unfolding lines
 lines_more f i n h = let e : n - i ≡ suc (n - (i + 1)) = omega arith in rw e
 
--- where one of them is put, the others are left
+-- where one of the lines is put, the others are left
 pub lines_step : (f : ℕ → List (List ℕ)) (i n : ℕ) (s t x : Spot) → i < n → t ≡ puts s (f i) → puts s (lines f i (n - i)) ≡ x → puts t (lines f (i + 1) (n - (i + 1))) ≡ x
 lines_step f i n s t x h e g = rw e (sym (puts_more s (f i) (lines f (i + 1) (n - (i + 1)))) ∙ rw (← lines_more f i n h) g)
 
 pub lines_end : (f : ℕ → List (List ℕ)) (i n : ℕ) (s : Spot) → n ≤ i → puts s (lines f i (n - i)) ≡ s
-unfolding lines puts
+unfolding lines
 lines_end f i n s h = let e : n - i ≡ 0 = omega arith in rw e

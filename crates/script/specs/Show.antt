@@ -13,7 +13,7 @@ use Rattle.script.specs.declared.command.Show.{Show}
 use Rattle.script.specs.declared.command.Show.TheVariants.{State as TheState, Table as TheTable, Map, Page, Image}
 use Rattle.script.specs.Text.{ascii}
 use Rattle.script.specs.Bytes.{adler}
-use Rattle.script.specs.Say.{formed, with_one, with_two, bad, hex}
+use Rattle.script.specs.Say.{formed, bad, hex}
 
 abbrev pub flag : Bool → ℕ
 flag true = 1
@@ -26,37 +26,37 @@ lines line i (suc n) = line i ++ lines line (i + 1) n
 
 -- ---- the state
 
-unfoldable pub writer_shown : Writer → List (List ℕ)
+abbrev pub writer_shown : Writer → List (List ℕ)
 writer_shown w =
-    cond w.active (formed (ascii " writer %:%:%:%:%:%:%") (w.file ∷ w.seq ∷ w.page ∷ w.previous ∷ w.copied ∷ w.boundary ∷ flag w.ended ∷ 0 ∷ 0 ∷ []))
+    cond w.active (formed (ascii " writer %:%:%:%:%:%:%") (w.file ∷ w.seq ∷ w.page ∷ w.previous ∷ w.copied ∷ w.boundary ∷ flag w.ended ∷ []))
     (ascii " writer none" ∷ [])
 
-unfoldable pub search_shown : Search → List (List ℕ)
+abbrev pub search_shown : Search → List (List ℕ)
 search_shown q =
-    cond q.active (formed (ascii " search %:%:%:%:%\n") (q.file ∷ q.left ∷ q.right ∷ q.result ∷ q.mid ∷ 0 ∷ 0 ∷ 0 ∷ 0 ∷ []))
+    cond q.active (formed (ascii " search %:%:%:%:%\n") (q.file ∷ q.left ∷ q.right ∷ q.result ∷ q.mid ∷ []))
     (ascii " search none\n" ∷ [])
 
 abbrev pub mounted_shown : State → List (List ℕ)
 mounted_shown s =
     formed (ascii "state pages % count % meta % seq % cursor % seed % transaction %")
-    (s.pages ∷ s.page_count ∷ s.meta_page ∷ s.meta_seq ∷ s.cursor ∷ s.seed ∷ flag s.transaction ∷ 0 ∷ 0 ∷ [])
+    (s.pages ∷ s.page_count ∷ s.meta_page ∷ s.meta_seq ∷ s.cursor ∷ s.seed ∷ flag s.transaction ∷ [])
 
-unfoldable pub state_shown : State → List (List ℕ)
+abbrev pub state_shown : State → List (List ℕ)
 state_shown s =
     cond (is_mounted s) (mounted_shown s ++ (writer_shown s.writer ++ search_shown s.search))
-    (with_one (ascii "state unmounted seed %\n") s.seed)
+    (formed (ascii "state unmounted seed %\n") (s.seed ∷ []))
 
 -- ---- the table: a line for each file
 
-unfoldable pub links_shown : List ℕ → List (List ℕ)
+abbrev pub links_shown : List ℕ → List (List ℕ)
 links_shown links = formed (ascii " links %,%,%,%,%,%,%,%,%\n") links
 
-unfoldable pub fields_shown : ℕ → FileRecord → List (List ℕ)
+abbrev pub fields_shown : ℕ → FileRecord → List (List ℕ)
 fields_shown i f =
     formed (ascii "file % first % last % flags % dirty % page % seq % length % boundary %")
     (i ∷ f.first_seq ∷ f.last_seq ∷ f.flags ∷ flag f.dirty ∷ f.last_page ∷ f.header.seq ∷ f.header.length ∷ f.header.record_boundary ∷ [])
 
-unfoldable pub file_shown : ℕ → FileRecord → List (List ℕ)
+abbrev pub file_shown : ℕ → FileRecord → List (List ℕ)
 file_shown i f = fields_shown i f ++ links_shown f.header.skiplist
 
 abbrev pub table_shown : Table → List (List ℕ)
@@ -65,15 +65,15 @@ table_shown t = lines (λ i. file_shown i (file_at t i)) 0 8
 -- ---- the image
 
 -- a page in hex, where it is wholly in the image
-unfoldable pub page_shown : List ℕ → ℕ → List (List ℕ)
+abbrev pub page_shown : List ℕ → ℕ → List (List ℕ)
 page_shown image p = cond (eqb (length (page_of image p)) 0) bad (hex (ascii "page") (page_of image p))
 
 -- the sum of a page that is not all 0xFF
-unfoldable pub sum_shown : List ℕ → ℕ → List (List ℕ)
-sum_shown image p = cond (all_erased (page_of image p)) [] (with_two (ascii "page % %\n") p (adler 1 0 (page_of image p)))
+abbrev pub sum_shown : List ℕ → ℕ → List (List ℕ)
+sum_shown image p = cond (all_erased (page_of image p)) [] (formed (ascii "page % %\n") (p ∷ adler 1 0 (page_of image p) ∷ []))
 
-unfoldable pub image_shown : List ℕ → List (List ℕ)
-image_shown image = lines (sum_shown image) 0 (length image / 256) ++ with_one (ascii "image %\n") (adler 1 0 image)
+abbrev pub image_shown : List ℕ → List (List ℕ)
+image_shown image = lines (sum_shown image) 0 (length image / 256) ++ formed (ascii "image %\n") (adler 1 0 image ∷ [])
 
 -- ---- each
 

@@ -1,5 +1,5 @@
 -- Parts of a text, and pieces put behind each other into a buffer. Assumes nothing: these are definitions.
-use Rattle.std.specs.Prelude.{ℕ, ◌+◌, ◌/◌, ◌%◌, List, [], ◌∷◌, Bool, true, false, cond, leb, ltb, eqb, length, drop}
+use Rattle.std.specs.Prelude.{ℕ, ◌+◌, ◌/◌, ◌%◌, List, [], ◌∷◌, Bool, Option, Some, None, cond, leb, ltb, eqb, length, drop, ◌≡◌}
 use Prim.Native.Char.{code}
 use Prim.Native.String.{String, [] as end, ◌∷◌ as ◌then◌}
 use Rattle.runs.specs.Runs.{placed}
@@ -21,15 +21,30 @@ has b l = ltb (length (until b l)) (length l)
 abbrev pub beyond : ℕ → List ℕ → List ℕ
 beyond b l = drop (length (until b l) + 1) l
 
--- whether two texts are one
-unfoldable pub same : List ℕ → List ℕ → Bool
-same [] [] = true
-same [] (y ∷ t) = false
-same (x ∷ s) [] = false
-same (x ∷ s) (y ∷ t) = cond (eqb x y) (same s t) false
+abbrev pub rest : ℕ → List ℕ → Option (List ℕ)
+rest b l = cond (has b l) (Some (beyond b l)) None
+
+-- the words of a text, separated by one space (32)
+abbrev pub glued : ℕ → List (List ℕ) → List (List ℕ)
+glued x [] = (x ∷ []) ∷ []
+glued x (w ∷ ws) = (x ∷ w) ∷ ws
+
+unfoldable pub words : List ℕ → List (List ℕ)
+words [] = [] ∷ []
+words (x ∷ l) = cond (eqb x 32) ([] ∷ words l) (glued x (words l))
+
+-- of a text that may be none
+abbrev pub words_of : Option (List ℕ) → List (List ℕ)
+words_of None = []
+words_of (Some l) = words l
+
+-- the first of the words is taken, and none is left behind the last
+abbrev pub next_word : List (List ℕ) → Option (List ℕ) → List (List ℕ) → Type 0
+next_word ws None vs = (ws ≡ []) × (vs ≡ [])
+next_word ws (Some w) vs = ws ≡ w ∷ vs
 
 -- the index behind n bytes that are put at an index, and the buffer's end where they do not fit
-unfoldable pub behind : ℕ → ℕ → ℕ → ℕ
+abbrev pub behind : ℕ → ℕ → ℕ → ℕ
 behind room at n = cond (leb (at + n) room) (at + n) room
 
 -- a buffer, and the index in it at which the next text is put
@@ -41,11 +56,11 @@ abbrev pub spot : List ℕ → ℕ → Spot
 spot l i = record { buffer = l; at = i }
 
 -- a text put there, and nothing where it does not fit
-unfoldable pub put : Spot → List ℕ → Spot
+abbrev pub put : Spot → List ℕ → Spot
 put s t = spot (placed s.buffer s.at t) (behind (length s.buffer) s.at (length t))
 
 -- texts put behind each other
-unfoldable pub puts : Spot → List (List ℕ) → Spot
+abbrev pub puts : Spot → List (List ℕ) → Spot
 puts s [] = s
 puts s (t ∷ ts) = puts (put s t) ts
 

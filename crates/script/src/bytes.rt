@@ -1,101 +1,67 @@
 // Numbers, runs of bytes and sums, as the protocol writes them.
-ghost use Rattle.std.specs.Prelude.{◌≡◌, true, ◌/◌, ◌%◌, ◌≤◌, length};
+ghost use Rattle.std.specs.Prelude.{◌≡◌, true, ◌/◌, ◌%◌, ◌≤◌, ◌<◌, length};
 ghost use Rattle.runs.specs.Runs.{placed};
-ghost use Rattle.script.specs.Bytes.{more, zero_in_front, number_of, hex_value, all_hex, bytes_of, run_of, decoded, ramp, adler};
+ghost use Rattle.script.specs.Bytes.{more, zero_in_front, number_of, hex_value, all_hex, digit_of, is_run, bytes_of, run_of, decoded, ramp, adler};
 
-#[derive(Clone, Copy)]
-pub enum Number {
-    Is(u32),
-    Bad,
-}
-
-// How many bytes a word stands for, or that it is none of the protocol.
-#[derive(Clone, Copy)]
-pub enum Run {
-    Bytes(usize),
-    Odd,
-}
-
-fn more(value: u32, digit: u8) -> Number
+// A number with one digit more.
+fn more(value: u32, digit: u8) -> Option<u32>
     ensures { result ≡ more value digit }
 {
-    if digit < 48 {
-        return Number::Bad;
+    if !digit.is_ascii_digit() {
+        return None;
     }
-    if 57 < digit {
-        return Number::Bad;
-    }
-    let sum = (value as u64) * 10 + ((digit - 48) as u64);
-    if 4294967295 < sum {
-        return Number::Bad;
-    }
-    Number::Is(sum as u32)
+    u32::try_from(u64::from(value) * 10 + u64::from(digit - b'0')).ok()
 }
 
 fn zero_in_front(word: &[u8]) -> bool
     ensures { result ≡ zero_in_front word.now }
 {
-    if word.len() < 2 {
-        return false;
-    }
-    word[0] == 48
+    2 <= word.len() && word[0] == b'0'
 }
 
 // A number is digits alone, without a zero in front (0 itself aside), and fits 32 bits.
-pub fn number_of(word: &[u8]) -> Number
+pub fn number_of(word: &[u8]) -> Option<u32>
     ensures { result ≡ number_of word.now }
 {
-    if word.len() == 0 {
-        return Number::Bad;
-    }
-    if zero_in_front(word) {
-        return Number::Bad;
+    if word.is_empty() || zero_in_front(word) {
+        return None;
     }
     let mut value = 0;
-    let mut i = 0;
-    while i < word.len() {
-        match more(value, word[i]) {
-            Number::Bad => {
-                return Number::Bad;
-            }
-            Number::Is(n) => {
-                value = n;
-            }
-        }
-        i += 1;
+    for digit in word {
+        value = more(value, *digit)?;
     }
-    Number::Is(value)
+    Some(value)
 }
 
-fn hex_value(d: u8) -> u8
+// The kit's `hex` reads digits in upper case too, which are none of the protocol.
+fn hex_value(d: u8) -> Option<u8>
     ensures { result ≡ hex_value d }
 {
-    if d < 48 {
-        return 16;
+    match d {
+        b'0'..=b'9' => Some(d - b'0'),
+        b'a'..=b'f' => Some(d - b'a' + 10),
+        _ => None,
     }
-    if d <= 57 {
-        return d - 48;
-    }
-    if d < 97 {
-        return 16;
-    }
-    if d <= 102 {
-        return d - 87;
-    }
-    16
+}
+
+// The value of a digit that was looked through.
+fn digit_of(d: u8) -> u8
+    ensures { (result ≡ digit_of d) × (result < 16) }
+{
+    hex_value(d).unwrap_or(0)
 }
 
 fn all_hex(word: &[u8]) -> bool
     ensures { result ≡ all_hex word.now }
 {
-    let mut i = 0;
-    while i < word.len() {
-        if 16 <= hex_value(word[i]) {
-            return false;
-        }
-        i += 1;
-    }
-    true
+    word.iter().all(|d| hex_value(*d).is_some())
+}
+
+// Whether a word stands for bytes: an even number of digits, not none, and no more than there is room for.
+fn is_run(room: usize, word: &[u8]) -> bool
+    ensures { result ≡ is_run room word.now }
+{
+    !word.is_empty() && word.len() % 2 == 0 && word.len() / 2 <= room && all_hex(word)
 }
 
 // The bytes of digits that were looked through, from the buffer's start on.
@@ -103,47 +69,31 @@ fn decode(word: &[u8], out: &mut [u8])
     requires { (length word.now % 2 ≡ 0) × (length word.now / 2 ≤ length out.old) × (all_hex word.now ≡ true) }
     ensures { out.new ≡ placed out.old 0 (bytes_of word.now) }
 {
-    let mut i = 0;
-    let mut o = 0;
-    while i < word.len() {
-        out[o] = hex_value(word[i]) * 16 + hex_value(word[i + 1]);
-        i += 2;
-        o += 1;
+    for o in 0..word.len() / 2 {
+        out[o] = digit_of(word[2 * o]) * 16 + digit_of(word[2 * o + 1]);
     }
 }
 
-// The bytes that a word in hex stands for, from the buffer's start on. Nothing changes where it is none.
-pub fn hex_of(word: &[u8], out: &mut [u8]) -> Run
+// The bytes that a word in hex stands for, from the buffer's start on: how many they are. Nothing changes where it is none.
+pub fn hex_of(word: &[u8], out: &mut [u8]) -> Option<usize>
     ensures { (result ≡ run_of (length out.old) word.now)
         × (out.new ≡ decoded out.old word.now) }
 {
-    let n = word.len();
-    if n == 0 {
-        return Run::Odd;
+    if !is_run(out.len(), word) {
+        return None;
     }
-    if n % 2 != 0 {
-        return Run::Odd;
-    }
-    if out.len() < n / 2 {
-        return Run::Odd;
-    }
-    if all_hex(word) {
-        decode(word, out);
-        return Run::Bytes(n / 2);
-    }
-    Run::Odd
+    decode(word, out);
+    Some(word.len() / 2)
 }
 
 // Fills the buffer: the first byte is start mod 251, and each the next mod 251.
 pub fn fill(out: &mut [u8], start: u32)
     ensures { out.new ≡ ramp (length out.old) (start % 251) }
 {
-    let mut b = (start % 251) as u8;
-    let mut i = 0;
-    while i < out.len() {
-        out[i] = b;
-        b = if b < 250 { b + 1 } else { 0 };
-        i += 1;
+    let mut next = (start % 251) as u8;
+    for byte in out {
+        *byte = next;
+        next = if next < 250 { next + 1 } else { 0 };
     }
 }
 
@@ -152,11 +102,9 @@ pub fn adler32(s: &[u8]) -> u32
 {
     let mut a: u32 = 1;
     let mut b: u32 = 0;
-    let mut i = 0;
-    while i < s.len() {
-        a = (a + s[i] as u32) % 65521;
+    for byte in s {
+        a = (a + u32::from(*byte)) % 65521;
         b = (b + a) % 65521;
-        i += 1;
     }
     b * 65536 + a
 }

@@ -1,197 +1,168 @@
 // What `show` prints.
 ghost use Rattle.std.specs.Prelude.{◌≡◌};
-ghost use Rattle.script.specs.Text.{spot, puts};
+ghost use Rattle.script.specs.Text.{puts};
 ghost use Rattle.script.specs.Show.{writer_shown, search_shown, mounted_shown, state_shown, links_shown, file_shown, table_shown, page_shown, sum_shown, image_shown, shown};
 
+use crate::bytes::adler32;
 use crate::command::Show;
-use crate::{say, text};
+use crate::say;
+use crate::text::Output;
 use state::types::{FileRecord, Search, State, Table, Writer};
 
-fn show_writer(out: &mut [u8], at: usize, w: Writer) -> usize
-    ensures { spot out.new result ≡ puts (spot out.old at) (writer_shown w) }
+fn show_writer(output: &mut Output, w: Writer)
+    ensures { output.new ≡ puts output.old (writer_shown w) }
 {
-    if w.active {
-        let numbers = [
-            w.file as u64,
-            w.seq as u64,
-            w.page as u64,
-            w.previous as u64,
-            w.copied as u64,
-            w.boundary as u64,
-            w.ended as u64,
-            0,
-            0,
-        ];
-        return say::form(out, at, b" writer %:%:%:%:%:%:%", numbers);
+    if !w.active {
+        output.put(b" writer none");
+        return;
     }
-    text::put(out, at, b" writer none")
+    let numbers = [
+        u64::from(w.file),
+        u64::from(w.seq),
+        w.page as u64,
+        w.previous as u64,
+        u64::from(w.copied),
+        u64::from(w.boundary),
+        u64::from(w.ended),
+    ];
+    say::form(output, b" writer %:%:%:%:%:%:%", &numbers);
 }
 
-fn show_search(out: &mut [u8], at: usize, q: Search) -> usize
-    ensures { spot out.new result ≡ puts (spot out.old at) (search_shown q) }
+fn show_search(output: &mut Output, q: Search)
+    ensures { output.new ≡ puts output.old (search_shown q) }
 {
-    if q.active {
-        let numbers = [
-            q.file as u64,
-            q.left as u64,
-            q.right as u64,
-            q.result as u64,
-            q.mid as u64,
-            0,
-            0,
-            0,
-            0,
-        ];
-        return say::form(out, at, b" search %:%:%:%:%\n", numbers);
+    if !q.active {
+        output.put(b" search none\n");
+        return;
     }
-    text::put(out, at, b" search none\n")
+    let numbers = [
+        u64::from(q.file),
+        u64::from(q.left),
+        u64::from(q.right),
+        u64::from(q.result),
+        u64::from(q.mid),
+    ];
+    say::form(output, b" search %:%:%:%:%\n", &numbers);
 }
 
-fn show_mounted(out: &mut [u8], at: usize, s: State) -> usize
-    ensures { spot out.new result ≡ puts (spot out.old at) (mounted_shown s) }
+fn show_mounted(output: &mut Output, s: State)
+    ensures { output.new ≡ puts output.old (mounted_shown s) }
 {
     let numbers = [
         s.pages as u64,
         s.page_count as u64,
         s.meta_page as u64,
-        s.meta_seq as u64,
+        u64::from(s.meta_seq),
         s.cursor as u64,
-        s.seed as u64,
-        s.transaction as u64,
-        0,
-        0,
+        u64::from(s.seed),
+        u64::from(s.transaction),
     ];
     say::form(
-        out,
-        at,
+        output,
         b"state pages % count % meta % seq % cursor % seed % transaction %",
-        numbers,
-    )
+        &numbers,
+    );
 }
 
-fn show_state(out: &mut [u8], at: usize, s: State) -> usize
-    ensures { spot out.new result ≡ puts (spot out.old at) (state_shown s) }
+fn show_state(output: &mut Output, s: State)
+    ensures { output.new ≡ puts output.old (state_shown s) }
 {
-    if state::checks::is_mounted(s) {
-        let w = s.writer;
-        let q = s.search;
-        let at = show_mounted(out, at, s);
-        let at = show_writer(out, at, w);
-        return show_search(out, at, q);
+    if !state::checks::is_mounted(s) {
+        say::form(output, b"state unmounted seed %\n", &[u64::from(s.seed)]);
+        return;
     }
-    say::one(out, at, b"state unmounted seed %\n", s.seed)
+    let w = s.writer;
+    let q = s.search;
+    show_mounted(output, s);
+    show_writer(output, w);
+    show_search(output, q);
 }
 
-fn show_links(out: &mut [u8], at: usize, links: [u16; 9]) -> usize
-    ensures { spot out.new result ≡ puts (spot out.old at) (links_shown links) }
+fn show_links(output: &mut Output, links: [u16; 9])
+    ensures { output.new ≡ puts output.old (links_shown links) }
 {
-    let numbers = [
-        links[0] as u64,
-        links[1] as u64,
-        links[2] as u64,
-        links[3] as u64,
-        links[4] as u64,
-        links[5] as u64,
-        links[6] as u64,
-        links[7] as u64,
-        links[8] as u64,
-    ];
-    say::form(out, at, b" links %,%,%,%,%,%,%,%,%\n", numbers)
+    let numbers = links.map(|link| u64::from(link));
+    say::form(output, b" links %,%,%,%,%,%,%,%,%\n", &numbers);
 }
 
-fn show_file(out: &mut [u8], at: usize, i: usize, f: FileRecord) -> usize
-    ensures { spot out.new result ≡ puts (spot out.old at) (file_shown i f) }
+fn show_file(output: &mut Output, i: usize, f: FileRecord)
+    ensures { output.new ≡ puts output.old (file_shown i f) }
 {
     let h = f.header;
     let links = h.skiplist;
     let numbers = [
         i as u64,
-        f.first_seq as u64,
-        f.last_seq as u64,
-        f.flags as u64,
-        f.dirty as u64,
+        u64::from(f.first_seq),
+        u64::from(f.last_seq),
+        u64::from(f.flags),
+        u64::from(f.dirty),
         f.last_page as u64,
-        h.seq as u64,
-        h.length as u64,
-        h.record_boundary as u64,
+        u64::from(h.seq),
+        u64::from(h.length),
+        u64::from(h.record_boundary),
     ];
-    let at = say::form(
-        out,
-        at,
+    say::form(
+        output,
         b"file % first % last % flags % dirty % page % seq % length % boundary %",
-        numbers,
+        &numbers,
     );
-    show_links(out, at, links)
+    show_links(output, links);
 }
 
-fn show_table(out: &mut [u8], at: usize, table: Table) -> usize
-    ensures { spot out.new result ≡ puts (spot out.old at) (table_shown table) }
+fn show_table(output: &mut Output, table: Table)
+    ensures { output.new ≡ puts output.old (table_shown table) }
 {
-    let mut at = at;
-    let mut i = 0;
-    while i < 8 {
-        let f = table.files[i];
-        at = show_file(out, at, i, f);
-        i += 1;
+    for (i, f) in table.files.iter().enumerate() {
+        show_file(output, i, *f);
     }
-    at
 }
 
-fn show_page(out: &mut [u8], at: usize, image: &[u8], p: usize) -> usize
-    ensures { spot out.new result ≡ puts (spot out.old at) (page_shown image.now p) }
+fn show_page(output: &mut Output, image: &[u8], p: usize)
+    ensures { output.new ≡ puts output.old (page_shown image.now p) }
 {
     let bytes = page::page_of(image, p);
-    if bytes.len() == 0 {
-        return say::bad(out, at);
+    if bytes.is_empty() {
+        say::bad(output);
+    } else {
+        say::hex(output, b"page", bytes);
     }
-    say::hex(out, at, b"page", bytes)
 }
 
 // A page's sum, where it is not all 0xFF.
-fn show_sum(out: &mut [u8], at: usize, image: &[u8], p: usize) -> usize
-    ensures { spot out.new result ≡ puts (spot out.old at) (sum_shown image.now p) }
+fn show_sum(output: &mut Output, image: &[u8], p: usize)
+    ensures { output.new ≡ puts output.old (sum_shown image.now p) }
 {
     let bytes = page::page_of(image, p);
-    if runs::all_erased(bytes) {
-        return at;
+    if !runs::all_erased(bytes) {
+        let numbers = [p as u64, u64::from(adler32(bytes))];
+        say::form(output, b"page % %\n", &numbers);
     }
-    say::two(
-        out,
-        at,
-        b"page % %\n",
-        p as u64,
-        crate::bytes::adler32(bytes),
-    )
 }
 
-fn show_image(out: &mut [u8], at: usize, image: &[u8]) -> usize
-    ensures { spot out.new result ≡ puts (spot out.old at) (image_shown image.now) }
+fn show_image(output: &mut Output, image: &[u8])
+    ensures { output.new ≡ puts output.old (image_shown image.now) }
 {
-    let mut at = at;
-    let mut p = 0;
-    while p < image.len() / 256 {
-        at = show_sum(out, at, image, p);
-        p += 1;
+    for p in 0..image.len() / 256 {
+        show_sum(output, image, p);
     }
-    say::one(out, at, b"image %\n", crate::bytes::adler32(image))
+    say::form(output, b"image %\n", &[u64::from(adler32(image))]);
 }
 
 pub fn on_show(
+    output: &mut Output,
     image: &[u8],
     map: &[u8],
-    out: &mut [u8],
-    at: usize,
     table: Table,
     state: State,
     what: Show,
-) -> usize
-    ensures { spot out.new result ≡ puts (spot out.old at) (shown image.now map.now table state what) }
+)
+    ensures { output.new ≡ puts output.old (shown image.now map.now table state what) }
 {
     match what {
-        Show::State => show_state(out, at, state),
-        Show::Table => show_table(out, at, table),
-        Show::Map => say::hex(out, at, b"map", map),
-        Show::Page(p) => show_page(out, at, image, p),
-        Show::Image => show_image(out, at, image),
+        Show::State => show_state(output, state),
+        Show::Table => show_table(output, table),
+        Show::Map => say::hex(output, b"map", map),
+        Show::Page(p) => show_page(output, image, p),
+        Show::Image => show_image(output, image),
     }
 }

@@ -1,72 +1,103 @@
 // Parts of a text, and pieces put behind each other into a lent buffer.
-ghost use Rattle.std.specs.Prelude.{◌≡◌, ◌<◌, drop};
-ghost use Rattle.script.specs.Text.{until, same, behind, spot, put, hex_digit, hex_digits};
+ghost use Rattle.std.specs.Prelude.{◌≡◌, ◌+◌, ◌*◌, ◌<◌, ◌≤◌, ◌++◌, [], List, ℕ, Option, length, OnOk};
+ghost use Rattle.std.specs.Option.{option_copied};
+ghost use Rattle.std.specs.Iterator.{at_most};
+ghost use Rattle.io.specs.Digits.{IsDigitCount};
+ghost use Rattle.runs.specs.Runs.{part_of, splice};
+ghost use Rattle.script.specs.Text.{until, rest, words, words_of, next_word, behind, Spot, spot, put, hex_digit, hex_digits};
+ghost use Rattle.script.specs.Say.{decimal};
 
-// The bytes of s from an index on, up to the next b or to the end.
-pub fn until(s: &[u8], from: usize, b: u8) -> &[u8]
-    ensures { result.now ≡ until b (drop from s.now) }
+use std::marker::Model;
+
+// A text up to its first b, and what is behind that, if there is one.
+pub fn cut(s: &[u8], b: u8) -> (&[u8], Option<&[u8]>)
+    ensures front { result.0.now ≡ until b s.now }
+    ensures back { option_copied result.1 ≡ rest b s.now }
 {
-    if s.len() < from {
-        return &s[..0];
+    match s.iter().position(|x| *x == b) {
+        Some(i) => (&s[..i], Some(&s[i + 1..])),
+        None => (s, None),
     }
-    let mut i = from;
-    while i < s.len() {
-        if s[i] == b {
-            return &s[from..i];
-        }
-        i += 1;
-    }
-    &s[from..]
 }
 
-// Whether a word is a text.
-pub fn is(word: &[u8], text: &[u8]) -> bool
-    ensures { result ≡ same word.now text.now }
-{
-    if word.len() != text.len() {
-        return false;
+// The words of a text that are left, separated by one space.
+#[derive(Drop)]
+pub struct Words<'a> {
+    rest: Option<&'a [u8]>,
+}
+
+impl<'a> Model for Words<'a> {
+    ghost Value = { List (List ℕ) };
+
+    ghost view = { λ w. words_of (option_copied w.rest) };
+}
+
+impl<'a> Words<'a> {
+    pub fn new(text: &'a [u8]) -> Words<'a>
+        ensures { result ≡ words text.now }
+    {
+        Words { rest: Some(text) }
     }
-    let mut i = 0;
-    while i < word.len() {
-        if word[i] != text[i] {
-            return false;
-        }
-        i += 1;
+}
+
+impl<'a> Iterator for Words<'a> {
+    type Item = &'a [u8];
+
+    ghost next_gives = { λ s r t. next_word s (option_copied r) t };
+
+    ghost remaining = { λ s. at_most (length s) };
+
+    fn next(&mut self) -> Option<&'a [u8]> {
+        let (word, rest) = cut(self.rest?, b' ');
+        self.rest = rest;
+        Some(word)
     }
-    true
+}
+
+// The output buffer, and where in it the next text is put.
+#[derive(Drop)]
+pub struct Output<'a> {
+    buffer: &'a mut [u8],
+    at: usize,
+}
+
+impl<'a> Model for Output<'a> {
+    ghost Value = { Spot };
+
+    ghost view = { λ o. spot o.buffer.now o.at };
 }
 
 // Where what is put at an index ends: the buffer's end where it does not fit.
 fn end_of(room: usize, at: usize, n: usize) -> usize
     ensures { result ≡ behind room at n }
 {
-    if room < at {
-        return room;
+    if at <= room && n <= room - at {
+        at + n
+    } else {
+        room
     }
-    if room - at < n {
-        return room;
-    }
-    at + n
-}
-
-// Puts a text into the buffer at an index and answers the index behind it. Where it does not fit, nothing changes and the
-// buffer's end is the answer.
-pub fn put(out: &mut [u8], at: usize, text: &[u8]) -> usize
-    ensures { spot out.new result ≡ put (spot out.old at) text.now }
-{
-    runs::place(out, at, text);
-    end_of(out.len(), at, text.len())
 }
 
 fn digit(n: u8) -> u8
     requires { n < 16 }
     ensures { result ≡ hex_digit n }
 {
-    if n < 10 { 48 + n } else { 87 + n }
+    if n < 10 { b'0' + n } else { b'a' - 10 + n }
 }
 
-// The same with bytes, each as two digits in hex.
-pub fn put_hex(out: &mut [u8], at: usize, bytes: &[u8]) -> usize
+// Bytes, each as two digits in hex, from an index on.
+fn write_hex(out: &mut [u8], at: usize, bytes: &[u8])
+    requires { at + 2 * length bytes.now ≤ length out.old }
+    ensures { out.new ≡ splice out.old at (hex_digits bytes.now) }
+{
+    for (i, b) in bytes.iter().enumerate() {
+        out[at + 2 * i] = digit(*b / 16);
+        out[at + 2 * i + 1] = digit(*b % 16);
+    }
+}
+
+// The same where it fits: where it ends.
+fn hex_at(out: &mut [u8], at: usize, bytes: &[u8]) -> usize
     ensures { spot out.new result ≡ put (spot out.old at) (hex_digits bytes.now) }
 {
     let room = out.len();
@@ -76,14 +107,60 @@ pub fn put_hex(out: &mut [u8], at: usize, bytes: &[u8]) -> usize
     if (room - at) / 2 < bytes.len() {
         return room;
     }
-    let mut o = at;
-    let mut i = 0;
-    while i < bytes.len() {
-        let b = bytes[i];
-        out[o] = digit(b / 16);
-        out[o + 1] = digit(b % 16);
-        o += 2;
-        i += 1;
+    write_hex(out, at, bytes);
+    at + 2 * bytes.len()
+}
+
+impl<'a> Output<'a> {
+    pub fn new(buffer: &'a mut [u8], at: usize) -> Output<'a>
+        ensures { result ≡ spot buffer.old at }
+    {
+        Output { buffer, at }
     }
-    o
+
+    pub fn at(&self) -> usize
+        ensures { result ≡ self.now.at }
+    {
+        self.at
+    }
+
+    // What is held, where the buffer has it whole.
+    pub fn held(&self) -> &[u8]
+        ensures { result.now ≡ part_of self.now.buffer 0 self.now.at }
+    {
+        runs::part_of(&*self.buffer, 0, self.at)
+    }
+
+    // Nothing is held from then on.
+    pub fn clear(&mut self)
+        ensures { self.new ≡ spot self.old.buffer 0 }
+    {
+        self.at = 0;
+    }
+
+    // Puts a text behind what is held. Where it does not fit, nothing is written and the buffer's end is held.
+    pub fn put(&mut self, text: &[u8])
+        ensures { self.new ≡ put self.old text.now }
+    {
+        let buffer = &mut *self.buffer;
+        runs::place(buffer, self.at, text);
+        self.at = end_of(buffer.len(), self.at, text.len());
+    }
+
+    // The same with bytes, each as two digits in hex.
+    pub fn put_hex(&mut self, bytes: &[u8])
+        ensures { self.new ≡ put self.old (hex_digits bytes.now) }
+    {
+        let buffer = &mut *self.buffer;
+        self.at = hex_at(buffer, self.at, bytes);
+    }
+
+    // The same with a number in decimal.
+    pub fn put_number(&mut self, n: u64)
+        ensures { self.new ≡ put self.old (decimal n) }
+    {
+        let mut digits = [0u8; 20];
+        let k = io::decimal(n, &mut digits);
+        self.put(&digits[..k]);
+    }
 }

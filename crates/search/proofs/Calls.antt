@@ -1,13 +1,10 @@
 -- What the exits of the calls come to. Assumes nothing.
-use Rattle.std.specs.Prelude.{Err}
+use Rattle.std.specs.Prelude.{Result, Ok, Err}
 use Rattle.state.specs.Refusals.{Done, fine}
 use mathlib.Core.Path.{◌≡◌, refl, sym, ◌∙◌, ap}
 use mathlib.Core.Bool.{Bool, true, false, cond}
 use Prim.Native.Nat.{ℕ}
-use native.Mathlib.Omega.{arith}
-use borrow.Author.Tests.{eq-eqb, ne_eqb}
 use lib.ListN.{length}
-use Rattle.seq.specs.Ids.{none}
 use Rattle.page.specs.Page.{Read}
 use Rattle.chain.specs.Files.{last_of}
 use Rattle.chain.specs.Links.{links_after}
@@ -21,60 +18,48 @@ use Rattle.state.specs.Checks.{checks}
 use Rattle.state.specs.World.{World, Outcome, kept, after_call, ended as finished}
 use Rattle.search.specs.declared.Answer.{Answer}
 use Rattle.search.specs.declared.Answer.TheVariants.{Offer as Offers, End}
-use Rattle.search.specs.declared.SearchOut.{SearchOut}
-use Rattle.search.specs.declared.hunt.Kind.TheVariants.{Offered, Ended, Broken}
 use Rattle.search.specs.declared.hunt.Hunted.{Hunted}
+use Rattle.search.specs.declared.hunt.Hunted.TheVariants.{Offered, Ended, Broken}
 use Rattle.search.specs.declared.search.Stand.{Stand}
 use Rattle.search.specs.Hunt.{Sought, offered, ended, broken, hunt}
 use Rattle.search.specs.Search.{offering, answering, sought_by, sought, start_of, start_in, start, left_of, right_of, answered, turn}
-use Rattle.search.specs.Told.{told, replied, begun, after_search}
+use Rattle.search.specs.Told.{Searched, searched, told, replied, begun, after_search}
 
 -- ---- an answer by where the hunt stands
 
-module _ (old : Search) (s : Stand) (x : Sought) (r : Hunted) (e : r ≡ told x) where
-  pub reply_offered : (q : Search) → q ≡ offering s r.left r.offer → r.kind ≡ Offered → record { answer = Offers r.offer.mid; search = q } ≡ replied old s x
-  reply_offered q u k = go x e
-    where
-      go : (y : Sought) → r ≡ told y → record { answer = Offers r.offer.mid; search = q } ≡ replied old s y
-      go (offered l o) f = rw (u, f)
-      go ended f = let v = ap (λ (h : Hunted). h.kind) f in let z : ◌≡◌ {A = ℕ} 0 1 = cc in absurd (omega arith)
-      go broken f = let v = ap (λ (h : Hunted). h.kind) f in let z : ◌≡◌ {A = ℕ} 0 1 = cc in absurd (omega arith)
+-- the same by what the code was told
+abbrev pub replied_told : Search → Stand → Hunted → Searched
+replied_told old s (Offered left o) = searched (Ok (Offers o.mid)) (offering s left o)
+replied_told old s Ended = searched (Ok (End s.result)) no_search
+replied_told old s Broken = searched (Err Damaged) old
 
-  pub reply_ended : (q : Search) → q ≡ no_search → r.kind ≡ Ended → record { answer = End s.result; search = q } ≡ replied old s x
-  reply_ended q u k = go x e
-    where
-      go : (y : Sought) → r ≡ told y → record { answer = End s.result; search = q } ≡ replied old s y
-      go (offered l o) f = let v = ap (λ (h : Hunted). h.kind) f in let z : ◌≡◌ {A = ℕ} 0 1 = cc in absurd (omega arith)
-      go ended f = rw u
-      go broken f = let v = ap (λ (h : Hunted). h.kind) f in let z : ◌≡◌ {A = ℕ} 0 1 = cc in absurd (omega arith)
-
-  pub reply_broken : r.kind ≡ Broken → record { answer = Err Damaged; search = old } ≡ replied old s x
-  reply_broken k = go x e
-    where
-      go : (y : Sought) → r ≡ told y → record { answer = Err Damaged; search = old } ≡ replied old s y
-      go (offered l o) f = let v = ap (λ (h : Hunted). h.kind) f in let z : ◌≡◌ {A = ℕ} 0 1 = cc in absurd (omega arith)
-      go ended f = let v = ap (λ (h : Hunted). h.kind) f in let z : ◌≡◌ {A = ℕ} 0 1 = cc in absurd (omega arith)
-      go broken f = refl
+pub replied_by : (old : Search) (s : Stand) (x : Sought) (r : Hunted) → r ≡ told x → replied_told old s r ≡ replied old s x
+replied_by old s x r e = ap (replied_told old s) e ∙ by x
+  where
+    by : (y : Sought) → replied_told old s (told y) ≡ replied old s y
+    by (offered left o) = refl
+    by ended = refl
+    by broken = refl
 
 -- ---- a start by the file's record
 
 module _ (old : Search) (count : ℕ) (read : ℕ → Read) (i : ℕ) (f : FileRecord) where
-  pub begun_empty : f.last_page ≡ none → (q : Search) → q ≡ no_search → record { answer = End f.first_seq; search = q } ≡ begun old count read i f
+  pub begun_empty : true ≡ is_empty f → searched (Ok (End f.first_seq)) no_search ≡ begun old count read i f
   unfolding begun
-  begun_empty e q u = rw (eq-eqb f.last_page none e, u)
+  begun_empty e = rw (← e) refl
 
-  pub begun_hunts : (f.last_page ≡ none → ⊥) → in_shape count f ≡ true → (s : Stand) → s ≡ start_of i f
+  pub begun_hunts : is_empty f ≡ false → in_shape count f ≡ true → (s : Stand) → s ≡ start_of i f
       → replied old s (hunt count read s.left s.right s.links) ≡ begun old count read i f
   unfolding begun
-  begun_hunts n h s u = rw (u, ne_eqb f.last_page none n, h)
+  begun_hunts n h s u = rw (u, n, h)
 
-  pub begun_broken : (f.last_page ≡ none → ⊥) → in_shape count f ≡ false → record { answer = Err Damaged; search = old } ≡ begun old count read i f
+  pub begun_broken : is_empty f ≡ false → in_shape count f ≡ false → searched (Err Damaged) old ≡ begun old count read i f
   unfolding begun
-  begun_broken n h = rw (ne_eqb f.last_page none n, h)
+  begun_broken n h = rw (n, h)
 
 -- ---- a call is an answer and the search that stays
 
-abbrev made : World → SearchOut → Outcome Answer
+abbrev made : World → Searched → Outcome (Result Answer Refusal)
 made w r = answering w r.answer r.search
 
 made_sought : (w : World) (s : Stand) (x : Sought) → made w (replied w.state.search s x) ≡ sought_by w s x
@@ -100,46 +85,46 @@ module _ (w : World) (i : ℕ) where
   -- ---- start
 
   -- a start that the checks refuse leaves the search
-  pub start_refused : (r : SearchOut) (why : Refusal) → Checks ≡ Err why → r ≡ record { answer = Err why; search = w.state.search }
-      → after_search r w.image w.map w.table w.state ≡ after_call (λ w. start w i) w
-  unfolding start with_search
-  start_refused r why e u = rw (u, e)
+  pub start_refused : (why : Refusal) → Checks ≡ Err why → after_search (Err why) w.image w.map w.table w.state ≡ after_call (λ w. start w i) w
+  unfolding start
+  start_refused why e = rw e
 
   -- else it is what the file's record gives
-  pub start_replied : (r : SearchOut) → Checks ≡ fine → r ≡ begun w.state.search w.state.page_count (read_at w.image) i (file_at w.table i)
-      → after_search r w.image w.map w.table w.state ≡ after_call (λ w. start w i) w
+  pub start_replied : (a : Result Answer Refusal) (q : Search) → Checks ≡ fine
+      → searched a q ≡ begun w.state.search w.state.page_count (read_at w.image) i (file_at w.table i)
+      → after_search a w.image w.map w.table (with_search w.state q) ≡ after_call (λ w. start w i) w
   unfolding start
-  start_replied r e u = rw (u, e) (ap (finished w) (made_started w i (file_at w.table i)))
+  start_replied a q e u = ap (λ (r : Searched). finished w (made w r)) u ∙ rw e (ap (finished w) (made_started w i (file_at w.table i)))
 
 -- ---- left and right
 
 module _ (w : World) (f : Search → Stand) where
   -- an answer that the checks refuse leaves the search
-  pub answer_refused : (r : SearchOut) (why : Refusal) → Checks w 0 ≡ Err why → r ≡ record { answer = Err why; search = w.state.search }
-      → after_search r w.image w.map w.table w.state ≡ after_call (λ w. answered w f) w
-  unfolding answered with_search
-  answer_refused r why e u = rw (u, e)
+  pub answer_refused : (why : Refusal) → Checks w 0 ≡ Err why → after_search (Err why) w.image w.map w.table w.state ≡ after_call (λ w. answered w f) w
+  unfolding answered
+  answer_refused why e = rw e
 
   -- so does one where no position is on offer
-  pub answer_none : (r : SearchOut) → Checks w 0 ≡ fine → w.state.search.active ≡ false → r ≡ record { answer = Err NoSearch; search = w.state.search }
-      → after_search r w.image w.map w.table w.state ≡ after_call (λ w. answered w f) w
-  unfolding answered with_search
-  answer_none r e a u = rw (u, e, a)
+  pub answer_none : Checks w 0 ≡ fine → w.state.search.active ≡ false
+      → after_search (Err NoSearch) w.image w.map w.table w.state ≡ after_call (λ w. answered w f) w
+  unfolding answered
+  answer_none e a = rw (e, a)
 
   answered_is : Checks w 0 ≡ fine → w.state.search.active ≡ true → answered w f ≡ sought w (f w.state.search)
   unfolding answered
   answered_is e a = rw e (ap (λ (b : Bool). cond b (sought w (f w.state.search)) (kept w (Err NoSearch))) a)
 
   -- else it is what the hunt gives from where the answer puts the search
-  pub answer_replied : (r : SearchOut) (s : Stand) → Checks w 0 ≡ fine → w.state.search.active ≡ true → s ≡ f w.state.search
-      → r ≡ replied w.state.search s (hunt w.state.page_count (read_at w.image) s.left s.right s.links)
-      → after_search r w.image w.map w.table w.state ≡ after_call (λ w. answered w f) w
+  pub answer_replied : (a : Result Answer Refusal) (q : Search) (s : Stand) → Checks w 0 ≡ fine → w.state.search.active ≡ true → s ≡ f w.state.search
+      → searched a q ≡ replied w.state.search s (hunt w.state.page_count (read_at w.image) s.left s.right s.links)
+      → after_search a w.image w.map w.table (with_search w.state q) ≡ after_call (λ w. answered w f) w
   unfolding sought
-  answer_replied r s e a g u =
-      let q = w.state.search in
-      rw (u, g) (ap (finished w) (made_sought w (f q) (hunt w.state.page_count (read_at w.image) (f q).left (f q).right (f q).links) ∙ sym (answered_is e a)))
+  answer_replied a q s e o g u =
+      let old = w.state.search in
+      ap (λ (r : Searched). finished w (made w r)) u
+      ∙ rw g (ap (finished w) (made_sought w (f old) (hunt w.state.page_count (read_at w.image) (f old).left (f old).right (f old).links) ∙ sym (answered_is e o)))
 
--- which way the answer puts it says which of the two calls it is
+-- the way of an answer
 pub turned : (b : Bool) (w : World) → after_call (λ w. answered w (cond b right_of left_of)) w ≡ after_call (turn b) w
 turned true w = refl
 turned false w = refl

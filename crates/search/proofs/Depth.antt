@@ -166,7 +166,7 @@ module _ (count : ℕ) (read : ℕ → Read) (right : ℕ) (links : List ℕ) wh
           let room = w.room in
           let low = w.low in
           let t = below (span (suc i)) right in
-          let n = number_below left right links (suc i) h (omega arith) in
+          let n = number_below right (suc i) h (omega arith) in
           omega (
             arith,
             walk_few count read left t (suc right) right (get_or links (suc i) 0) (t + 1) (λ s l m. omega arith),

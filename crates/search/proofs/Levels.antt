@@ -2,28 +2,32 @@
 use mathlib.Core.Path.{◌≡◌, refl, sym, ◌∙◌, ap}
 use mathlib.Core.Bool.{Bool, true, false, cond, ◌&&◌, not}
 use mathlib.Core.List.{List}
-use Prim.Native.Nat.{ℕ, zero, suc, ◌+◌, ◌-◌, ◌≤◌, ◌<◌}
+use Prim.Native.Nat.{ℕ, zero, suc, ◌+◌, ◌-◌, ◌≤◌, ◌<◌, max}
 use native.Mathlib.Numerals.{sub-one}
+use native.Mathlib.Decide.{dec_le}
+use native.Mathlib.Nat.{lt_of_not-le}
 use native.Mathlib.Omega.{arith}
 use borrow.Author.Tests.{ltb-true, leb-true, leb-false, eqb-false, le-leb, lt-leb, lt-ltb, le-ltb, eq-eqb, ne_eqb, not-true}
 use lib.Dec.{leb, ltb, eqb}
 use lib.ListN.{get_or}
 use Rattle.seq.specs.Ids.{none}
 use Rattle.seq.specs.Seq.{below, span, number, reply, jump_says}
-use Rattle.seq.specs.declared.numbers.Answer.{Answer}
-use Rattle.seq.specs.declared.numbers.Answer.TheVariants.{Number, Range, SeqEnd}
+use Rattle.std.specs.Prelude.{Option, Some, None, Result, Ok, Err}
+use Rattle.std.specs.Result.{result_unwrap_or}
+use Rattle.seq.specs.declared.numbers.SeqError.{SeqError}
+use Rattle.seq.specs.declared.numbers.SeqError.TheVariants.{Range, SeqEnd}
+use Rattle.std.proofs.lemmas.Option.{same_Some}
 use Rattle.seq.proofs.Laws.{span_pos}
 use Rattle.seq.proofs.Multiples.{below_greatest}
 use Rattle.state.proofs.Laws.{both}
 use Rattle.page.specs.declared.DataHeader.{DataHeader}
-use Rattle.page.specs.Page.{Read, readable, unreadable}
+use Rattle.page.specs.Page.{Read, readable, unreadable, gives}
 use Rattle.chain.specs.Steps.{is_page}
 use Rattle.search.specs.declared.hunt.Seen.{Seen}
 use Rattle.search.specs.declared.hunt.Seen.TheVariants.{Hit as Found, TooLeft, Back, Wrong}
 use Rattle.search.specs.declared.hunt.Aim.{Aim}
-use Rattle.search.specs.declared.hunt.Aim.TheVariants.{At, Past}
-use Rattle.search.specs.Hunt.{Hit, wrong, seen_on, seen_by, seek_to_page, hit_by, tries, Sought, offered, ended, broken, really_seek}
-use Rattle.search.specs.Told.{told, offer_on, hit_of, Says, seen_at, aimed, lowered, walked}
+use Rattle.search.specs.Hunt.{Hit, wrong, greater, seen_on, seen_by, seek_to_page, hit_by, tries, Sought, offered, ended, broken, really_seek}
+use Rattle.search.specs.Told.{told, offer_on, hit_of, Says, named, seen_at, aimed, lowered, walked}
 
 -- ---- fuel
 
@@ -60,32 +64,45 @@ module _ (count : ℕ) (read : ℕ → Read) (left target : ℕ) where
   unroll limit id =
       ap (λ x. cond (is_page count id) x wrong) (by_same left target limit (read id) _ _ (λ j s l. fuel_same limit (suc s) s j l (omega arith)))
 
+-- ---- the greater of two
+
+pub greater_max : (a b : ℕ) → greater a b ≡ max a b
+greater_max a b = by (dec_le a b)
+  where
+    by : Dec (a ≤ b) → greater a b ≡ max a b
+    by (yes h) = rw (le-leb a b h) (omega arith)
+    by (no h) = let m = lt_of_not-le h in rw (lt-leb a b m) (omega arith)
+
 -- ---- a level's number
 
-pub jumped : (c i : ℕ) → 0 < c → i < 9 → (r : Answer) → reply r ≡ jump_says c i → r ≡ Number (below (span i) c)
+pub jumped : (c i : ℕ) → 0 < c → i < 9 → (r : Result ℕ SeqError) → reply r ≡ jump_says c i → result_unwrap_or r 0 ≡ below (span i) c
 jumped c i hc hi r e = go r (e ∙ rw (ne_eqb c 0 (λ q. omega arith), lt-ltb i 9 hi))
   where
-    go : (r : Answer) → reply r ≡ number (below (span i) c) → r ≡ Number (below (span i) c)
-    go (Number n) q = cc
-    go Range q = cc
-    go SeqEnd q = cc
+    go : (r : Result ℕ SeqError) → reply r ≡ number (below (span i) c) → result_unwrap_or r 0 ≡ below (span i) c
+    go (Ok n) q = cc
+    go (Err Range) q = cc
+    go (Err SeqEnd) q = cc
+
+-- it lies below right
+pub number_below : (right i : ℕ) → i < 9 → 0 < right → below (span i) right < right
+number_below right i h p = (below_greatest (span i) right (span_pos i (omega arith)) p).1
 
 -- ---- whether a level is tried
 
 module _ (left right : ℕ) (links : List ℕ) (i : ℕ) where
-  pub aim_empty : right ≤ left → Past ≡ aimed left right links i
+  pub aim_empty : right ≤ left → None ≡ aimed left right links i
   unfolding tries
   aim_empty a = rw (le-ltb left right a)
 
-  pub aim_none : left < right → get_or links i 0 ≡ none → Past ≡ aimed left right links i
+  pub aim_none : left < right → get_or links i 0 ≡ none → None ≡ aimed left right links i
   unfolding tries
   aim_none a b = rw (lt-ltb left right a, eq-eqb (get_or links i 0) none b)
 
-  pub aim_low : left < right → (get_or links i 0 ≡ none → ⊥) → below (span i) right < left → Past ≡ aimed left right links i
+  pub aim_low : left < right → (get_or links i 0 ≡ none → ⊥) → below (span i) right < left → None ≡ aimed left right links i
   unfolding tries
   aim_low a b d = rw (lt-ltb left right a, ne_eqb (get_or links i 0) none b, lt-leb left (below (span i) right) d)
 
-  pub aim_tries : left < right → (get_or links i 0 ≡ none → ⊥) → left ≤ below (span i) right → At (get_or links i 0) (below (span i) right) ≡ aimed left right links i
+  pub aim_tries : left < right → (get_or links i 0 ≡ none → ⊥) → left ≤ below (span i) right → Some (record { id = get_or links i 0; target = below (span i) right }) ≡ aimed left right links i
   unfolding tries
   aim_tries a b d = rw (lt-ltb left right a, ne_eqb (get_or links i 0) none b, le-leb left (below (span i) right) d)
 
@@ -106,22 +123,19 @@ module _ (left right : ℕ) (links : List ℕ) (i : ℕ) where
       }
 
   -- by what the code was told
-  abbrev pub Told : Aim → Type 0
-  Told (At id target) = (tries left right links i ≡ true) × (id ≡ get_or links i 0) × (target ≡ below (span i) right)
-  Told Past = tries left right links i ≡ false
+  abbrev pub Told : Option Aim → Type 0
+  Told (Some a) = (tries left right links i ≡ true) × (a.id ≡ get_or links i 0) × (a.target ≡ below (span i) right)
+  Told None = tries left right links i ≡ false
 
-  pub aim_told : (r s : Aim) → r ≡ aimed left right links i → r ≡ s → Told s
-  aim_told r s e q = go (tries left right links i) refl s (sym q ∙ e)
+  pub aim_told : (s : Option Aim) → s ≡ aimed left right links i → Told s
+  aim_told s e = go (tries left right links i) refl s e
     where
-      go : (t : Bool) → tries left right links i ≡ t → (s : Aim) → s ≡ cond t (At (get_or links i 0) (below (span i) right)) Past → Told s
-      go true a (At id target) u = (a, cc, cc)
-      go true a Past u = let z : ◌≡◌ {A = ℕ} 0 1 = cc in absurd (omega arith)
-      go false a (At id target) u = let z : ◌≡◌ {A = ℕ} 0 1 = cc in absurd (omega arith)
-      go false a Past u = a
-
-  -- a level's number lies below right
-  pub number_below : i < 9 → 0 < right → below (span i) right < right
-  number_below h p = (below_greatest (span i) right (span_pos i (omega arith)) p).1
+      go : (t : Bool) → tries left right links i ≡ t → (s : Option Aim)
+          → s ≡ cond t (Some (record { id = get_or links i 0; target = below (span i) right })) None → Told s
+      go true a (Some b) u = let v = same_Some _ _ u in (a, ap (λ (x : Aim). x.id) v, ap (λ (x : Aim). x.target) v)
+      go true a None u = cc
+      go false a (Some b) u = cc
+      go false a None u = a
 
 -- ---- trying a level
 
@@ -157,13 +171,35 @@ module _ (count : ℕ) (read : ℕ → Read) (right : ℕ) (links : List ℕ) wh
 
   -- ---- walking back a page
 
-  module _ (i left target limit id : ℕ) (h : DataHeader) (s : Seen) (y : Says (seen_at count read left target limit id) target limit h s) where
+  -- no page has the id, or no header reads there
+  pub on_none : (i left target limit id : ℕ) → None ≡ gives (named count read id) → told broken ≡ told (walked count read right links i left target limit id)
+  unfolding gives
+  on_none i left target limit id e =
+      ap (λ x. told (hit_by left target x (λ l. lowered count read right links i l))) (sym (unroll count read left target limit id ∙ by (is_page count id) (read id) e))
+    where
+      by : (b : Bool) (r : Read) → None ≡ gives (cond b r unreadable) → cond b (seen_by left target limit r (again count read left target)) wrong ≡ wrong
+      by true unreadable e = refl
+      by true (readable h) e = cc
+      by false r e = refl
+
+  module _ (i left target limit id : ℕ) (h : DataHeader) (s : Seen) (r : Some h ≡ gives (named count read id)) (y : Says (seen_on left target limit h) target limit h s) where
     abbrev Ends : Sought → Type 0
     Ends x = told x ≡ told (walked count read right links i left target limit id)
 
+    -- what the header that reads there says
+    seen_here : seen_at count read left target limit id (again count read left target) ≡ seen_on left target limit h (again count read left target)
+    unfolding gives
+    seen_here = by (is_page count id) (read id) r
+      where
+        by : (b : Bool) (a : Read) → Some h ≡ gives (cond b a unreadable)
+            → cond b (seen_by left target limit a (again count read left target)) wrong ≡ seen_on left target limit h (again count read left target)
+        by true unreadable e = cc
+        by true (readable k) e = ap (λ (x : DataHeader). seen_on left target limit x (again count read left target)) (sym (same_Some _ _ e))
+        by false a e = cc
+
     seen_is : (s' : Seen) → s ≡ s' → Ends (hit_by left target (hit_of target h s' (again count read left target)) (λ l. lowered count read right links i l))
     seen_is s' e = ap (λ x. told (hit_by left target x (λ l. lowered count read right links i l)))
-        (sym (unroll count read left target limit id ∙ y.is (again count read left target) ∙ ap (λ k. hit_of target h k (again count read left target)) e))
+        (sym (unroll count read left target limit id ∙ seen_here ∙ y.is (again count read left target) ∙ ap (λ k. hit_of target h k (again count read left target)) e))
 
     pub on_wrong : s ≡ Wrong → Ends broken
     on_wrong e = seen_is Wrong e

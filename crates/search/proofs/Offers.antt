@@ -193,7 +193,7 @@ module _ (count : ℕ) (read : ℕ → Read) (right : ℕ) (links : List ℕ) (l
       go true a q =
           let w = tries_says left right links i a in
           let room = w.room in
-          on (seek_to_page count read left target (suc right) right (get_or links i 0)) refl (number_below left right links i h (omega arith)) w.low q
+          on (seek_to_page count read left target (suc right) right (get_or links i 0)) refl (number_below right i h (omega arith)) w.low q
       go false a q = rest left q
 
   pub level_offers : (i left : ℕ) → i < 9 → really_seek count read right links i left ≡ offered l o → Offers left

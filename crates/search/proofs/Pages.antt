@@ -1,5 +1,6 @@
 -- What the code's exits say of a page on the way. Assumes nothing.
-use mathlib.Core.Path.{◌≡◌}
+use Rattle.std.specs.Prelude.{None}
+use mathlib.Core.Path.{◌≡◌, refl}
 use mathlib.Core.Bool.{true, false, not}
 use Prim.Native.Nat.{ℕ, ◌+◌, ◌≤◌, ◌<◌}
 use native.Mathlib.Omega.{arith}
@@ -8,13 +9,13 @@ use lib.Dec.{eqb, ltb}
 use lib.ListN.{get_or}
 use Rattle.seq.specs.Ids.{none}
 use Rattle.page.specs.declared.DataHeader.{DataHeader}
-use Rattle.page.specs.Page.{Read, readable, unreadable}
+use Rattle.page.specs.Page.{Read, gives}
 use Rattle.chain.specs.Steps.{is_page}
 use Rattle.state.proofs.Laws.{both}
 use Rattle.search.specs.declared.hunt.Seen.{Seen}
 use Rattle.search.specs.declared.hunt.Seen.TheVariants.{Hit as Found, TooLeft, Back, Wrong}
 use Rattle.search.specs.Hunt.{Hit, hit, too_left, wrong, passed_over, found_on, seen_on}
-use Rattle.search.specs.Told.{offer_on, Says, seen_at}
+use Rattle.search.specs.Told.{offer_on, Says, named}
 
 -- ---- each of the four, by what is found
 
@@ -130,15 +131,10 @@ module _ (count id : ℕ) where
   unfolding is_page
   inside_says e = ltb-true id count (both (not (eqb id none)) (ltb id count) e).1
 
-module _ (count : ℕ) (read : ℕ → Read) (left target limit id : ℕ) (h : DataHeader) where
-  abbrev Page : Seen → Type 0
-  Page s = Says (seen_at count read left target limit id) target limit h s
+module _ (count : ℕ) (read : ℕ → Read) (id : ℕ) where
+  pub named_no : is_page count id ≡ false → None ≡ gives (named count read id)
+  unfolding gives
+  named_no e = rw e refl
 
-  pub look_no : is_page count id ≡ false → Page Wrong
-  look_no e = says_wrong _ target limit h (λ back. rw e)
-
-  pub look_unread : is_page count id ≡ true → read id ≡ unreadable → Page Wrong
-  look_unread e r = says_wrong _ target limit h (λ back. rw (e, r))
-
-  pub look_read : is_page count id ≡ true → read id ≡ readable h → (s : Seen) → Says (seen_on left target limit h) target limit h s → Page s
-  look_read e r s f = record { is = λ back. rw (e, r) (f.is back); fits = f.fits; falls = f.falls }
+  pub named_yes : is_page count id ≡ true → gives (read id) ≡ gives (named count read id)
+  named_yes e = rw e refl

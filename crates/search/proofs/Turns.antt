@@ -1,5 +1,5 @@
 -- The calls: each answer leaves less room, and on a file whose chain obeys the link rule none is Damaged. Assumes nothing.
-use Rattle.std.specs.Prelude.{Ok, Err}
+use Rattle.std.specs.Prelude.{Result, Ok, Err}
 use mathlib.Core.Path.{◌≡◌, refl, ◌∙◌, ap, subst}
 use mathlib.Core.Bool.{Bool, true, false, cond, ◌||◌, not}
 use mathlib.Core.List.{List, ◌∷◌}
@@ -51,8 +51,8 @@ barred image map s busy file = go (wrong_size image map (is_mounted s) s.pages) 
 
 -- ---- by cases: a refusal of the checks, no position on offer, or the hunt
 
-module _ (w : World) (P : Outcome Answer → Type 0) (refused : (why : Refusal) → (why ≡ Damaged → ⊥) → P (kept w (Err why))) where
-  by_checks : (i : ℕ) (go : Outcome Answer) → P go
+module _ (w : World) (P : Outcome (Result Answer Refusal) → Type 0) (refused : (why : Refusal) → (why ≡ Damaged → ⊥) → P (kept w (Err why))) where
+  by_checks : (i : ℕ) (go : Outcome (Result Answer Refusal)) → P go
       → P (on_done (checks (length w.image) (length w.map) w.state w.state.transaction i) (λ why. kept w (Err why)) go)
   by_checks i out p = go (checks (length w.image) (length w.map) w.state w.state.transaction i) refl
     where
@@ -68,34 +68,34 @@ module _ (w : World) (P : Outcome Answer → Type 0) (refused : (why : Refusal) 
       go true = p
       go false = refused NoSearch (λ e. let z : ◌≡◌ {A = ℕ} 0 1 = cc in omega arith)
 
-  by_start : (i : ℕ) → P (answering w (End (file_at w.table i).first_seq) no_search)
+  by_start : (i : ℕ) → P (answering w (Ok (End (file_at w.table i).first_seq)) no_search)
       → (in_shape w.state.page_count (file_at w.table i) ≡ false → P (kept w (Err Damaged)))
       → P (sought w (start_of i (file_at w.table i))) → P (start w i)
   unfolding start start_in
   by_start i q r p = by_checks i _ (go (is_empty (file_at w.table i)) (in_shape w.state.page_count (file_at w.table i)) refl)
     where
       go : (a b : Bool) → in_shape w.state.page_count (file_at w.table i) ≡ b
-          → P (cond a (answering w (End (file_at w.table i).first_seq) no_search) (cond b (sought w (start_of i (file_at w.table i))) (kept w (Err Damaged))))
+          → P (cond a (answering w (Ok (End (file_at w.table i).first_seq)) no_search) (cond b (sought w (start_of i (file_at w.table i))) (kept w (Err Damaged))))
       go true b e = q
       go false true e = p
       go false false e = r e
 
 -- ---- what a hunt from a stand comes to
 
-abbrev Undamaged : Outcome Answer → Type 0
+abbrev Undamaged : Outcome (Result Answer Refusal) → Type 0
 Undamaged o = o.answer ≡ Err Damaged → ⊥
 
 -- where a position is offered, the search is such
-abbrev Leaves : (ℕ → Search → Type 0) → Outcome Answer → Type 0
-Leaves Q o = (m : ℕ) → o.answer ≡ Offers m → Q m o.state.search
+abbrev Leaves : (ℕ → Search → Type 0) → Outcome (Result Answer Refusal) → Type 0
+Leaves Q o = (m : ℕ) → o.answer ≡ Ok (Offers m) → Q m o.state.search
 
 refused_leaves : (w : World) (Q : ℕ → Search → Type 0) (why : Refusal) → Leaves Q (kept w (Err why))
 refused_leaves w Q why m e = let z : ◌≡◌ {A = ℕ} 0 1 = cc in absurd (omega arith)
 
-ended_leaves : (w : World) (Q : ℕ → Search → Type 0) (n : ℕ) → Leaves Q (answering w (End n) no_search)
+ended_leaves : (w : World) (Q : ℕ → Search → Type 0) (n : ℕ) → Leaves Q (answering w (Ok (End n)) no_search)
 ended_leaves w Q n m e = let z : ◌≡◌ {A = ℕ} 0 1 = cc in absurd (omega arith)
 
-ended_undamaged : (w : World) (n : ℕ) → Undamaged (answering w (End n) no_search)
+ended_undamaged : (w : World) (n : ℕ) → Undamaged (answering w (Ok (End n)) no_search)
 ended_undamaged w n e = let z : ◌≡◌ {A = ℕ} 0 1 = cc in omega arith
 
 refused_undamaged : (w : World) (why : Refusal) → (why ≡ Damaged → ⊥) → Undamaged (kept w (Err why))
@@ -146,13 +146,13 @@ module _ (w : World) where
   offer_names s l o h = (refl, (hunt_offers w.state.page_count (read_at w.image) s.right s.links l o s.left h).named)
 
   -- every start that is offered is a boundary that a readable page names, above left and below right
-  pub start_names : (i m : ℕ) → (start w i).answer ≡ Offers m → Names m (start w i).state.search
+  pub start_names : (i m : ℕ) → (start w i).answer ≡ Ok (Offers m) → Names m (start w i).state.search
   start_names i = start_leaves w Names i (offer_names (start_of i (file_at w.table i)))
 
-  pub left_names : (m : ℕ) → (left w).answer ≡ Offers m → Names m (left w).state.search
+  pub left_names : (m : ℕ) → (left w).answer ≡ Ok (Offers m) → Names m (left w).state.search
   left_names = answer_leaves w Names left_of (offer_names (left_of w.state.search))
 
-  pub right_names : (m : ℕ) → (right w).answer ≡ Offers m → Names m (right w).state.search
+  pub right_names : (m : ℕ) → (right w).answer ≡ Ok (Offers m) → Names m (right w).state.search
   right_names = answer_leaves w Names right_of (offer_names (right_of w.state.search))
 
   -- ---- the search ends, on any image
@@ -161,7 +161,7 @@ module _ (w : World) where
   stands s l o h = offer_stands w.state.page_count (read_at w.image) l o s h
 
   -- a start that offers leaves a search that stands between left and right
-  pub start_stands : (i m : ℕ) → (start w i).answer ≡ Offers m → Standing (start w i).state.search
+  pub start_stands : (i m : ℕ) → (start w i).answer ≡ Ok (Offers m) → Standing (start w i).state.search
   start_stands i = start_leaves w (λ m q. Standing q) i (stands (start_of i (file_at w.table i)))
 
   module _ (t : Standing w.state.search) where
@@ -169,13 +169,13 @@ module _ (w : World) where
     Less m q = Standing q × (room q < room w.state.search)
 
     -- so does an answer that offers again, and there is less room
-    pub left_less : (m : ℕ) → (left w).answer ≡ Offers m → Less m (left w).state.search
+    pub left_less : (m : ℕ) → (left w).answer ≡ Ok (Offers m) → Less m (left w).state.search
     left_less = answer_leaves w Less left_of (λ l o h. (
       stands (left_of w.state.search) l o h,
       left_falls w.state.page_count (read_at w.image) l o w.state.search t h,
     ))
 
-    pub right_less : (m : ℕ) → (right w).answer ≡ Offers m → Less m (right w).state.search
+    pub right_less : (m : ℕ) → (right w).answer ≡ Ok (Offers m) → Less m (right w).state.search
     right_less = answer_leaves w Less right_of (λ l o h. (
       stands (right_of w.state.search) l o h,
       right_falls w.state.page_count (read_at w.image) l o w.state.search t h,
@@ -226,7 +226,7 @@ module _ (w : World) (i : ℕ) (l : List PagePointer) (h : FileOn w.state.page_c
       (sought_undamaged w From (never w.state.page_count (read_at w.image) First From (start_place _ _ _ l h) (omega arith)))
 
   -- and what it offers is held
-  pub start_held : (m : ℕ) → (start w i).answer ≡ Offers m → Held w.state.page_count (read_at w.image) First (start w i).state.search
+  pub start_held : (m : ℕ) → (start w i).answer ≡ Ok (Offers m) → Held w.state.page_count (read_at w.image) First (start w i).state.search
   start_held =
       start_leaves w (λ m q. Held w.state.page_count (read_at w.image) First q) i
       (offer_held w.state.page_count (read_at w.image) First From (start_place _ _ _ l h) (omega arith))
@@ -249,10 +249,10 @@ module _ (w : World) (first : ℕ) (h : Held w.state.page_count (read_at w.image
       by_answered w Undamaged (refused_undamaged w) right_of
       (sought_undamaged w (right_of w.state.search) (never w.state.page_count (read_at w.image) first (right_of w.state.search) h.right past))
 
-  pub left_held : (m : ℕ) → (left w).answer ≡ Offers m → Keeps m (left w).state.search
+  pub left_held : (m : ℕ) → (left w).answer ≡ Ok (Offers m) → Keeps m (left w).state.search
   left_held = answer_leaves w Keeps left_of (offer_held w.state.page_count (read_at w.image) first (left_of w.state.search) h.low h.left)
 
-  pub right_held : (m : ℕ) → (right w).answer ≡ Offers m → Keeps m (right w).state.search
+  pub right_held : (m : ℕ) → (right w).answer ≡ Ok (Offers m) → Keeps m (right w).state.search
   right_held = answer_leaves w Keeps right_of (offer_held w.state.page_count (read_at w.image) first (right_of w.state.search) h.right past)
 
 -- ---- the state after it counts as mounted

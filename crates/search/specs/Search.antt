@@ -1,10 +1,11 @@
 -- Search: start, left and right, by document 01, "Reading and search"; DECISIONS 6 and 23. Assumes nothing: these are definitions.
-use Rattle.std.specs.Prelude.{ℕ, ◌+◌, Bool, true, false, cond, List, [], ◌∷◌, Err}
+use Rattle.std.specs.Prelude.{ℕ, ◌+◌, Bool, true, false, cond, List, [], ◌∷◌, Result, Ok, Err}
 use Rattle.chain.specs.Files.{last_of}
 use Rattle.chain.specs.Links.{links_after}
 use Rattle.chain.specs.Steps.{read_at}
 use Rattle.state.specs.declared.types.FileRecord.{FileRecord}
 use Rattle.state.specs.declared.types.Search.{Search}
+use Rattle.state.specs.declared.types.Refusal.{Refusal}
 use Rattle.state.specs.declared.types.Refusal.TheVariants.{Damaged, NoSearch}
 use Rattle.state.specs.Refusals.{number}
 use Rattle.state.specs.Values.{file_at, is_empty, in_shape, no_search, with_search}
@@ -16,9 +17,9 @@ use Rattle.search.specs.declared.search.Stand.{Stand}
 use Rattle.search.specs.Hunt.{Sought, offered, ended, broken, hunt}
 
 -- an answer in document 01's numbers: 0, 1 and the position on offer, or 0, 0 and the result, or the refusal's number
-abbrev pub answer_numbers : Answer → List ℕ
-answer_numbers (Offers seq) = 0 ∷ 1 ∷ seq ∷ []
-answer_numbers (End seq) = 0 ∷ 0 ∷ seq ∷ []
+abbrev pub answer_numbers : Result Answer Refusal → List ℕ
+answer_numbers (Ok (Offers seq)) = 0 ∷ 1 ∷ seq ∷ []
+answer_numbers (Ok (End seq)) = 0 ∷ 0 ∷ seq ∷ []
 answer_numbers (Err why) = number why ∷ []
 
 abbrev pub offering : Stand → ℕ → Offer → Search
@@ -36,16 +37,16 @@ offering s left o =
       high = o.high;
     }
 
-abbrev pub answering : World → Answer → Search → Outcome Answer
+abbrev pub answering : World → Result Answer Refusal → Search → Outcome (Result Answer Refusal)
 answering w a q = record { answer = a; stores = []; map = w.map; table = w.table; state = with_search w.state q }
 
 -- a false answer leaves no position on offer, a Damaged one the search as it was
-abbrev pub sought_by : World → Stand → Sought → Outcome Answer
-sought_by w s (offered left o) = answering w (Offers o.mid) (offering s left o)
-sought_by w s ended = answering w (End s.result) no_search
+abbrev pub sought_by : World → Stand → Sought → Outcome (Result Answer Refusal)
+sought_by w s (offered left o) = answering w (Ok (Offers o.mid)) (offering s left o)
+sought_by w s ended = answering w (Ok (End s.result)) no_search
 sought_by w s broken = kept w (Err Damaged)
 
-unfoldable pub sought : World → Stand → Outcome Answer
+unfoldable pub sought : World → Stand → Outcome (Result Answer Refusal)
 sought w s = sought_by w s (hunt w.state.page_count (read_at w.image) s.left s.right s.links)
 
 -- ---- start: left and result at first_seq, right at last_seq and the links a next page would get; an empty file answers false
@@ -53,12 +54,12 @@ sought w s = sought_by w s (hunt w.state.page_count (read_at w.image) s.left s.r
 abbrev pub start_of : ℕ → FileRecord → Stand
 start_of i f = record { file = i; left = f.first_seq; right = f.last_seq; links = links_after (last_of f) f.last_seq; result = f.first_seq }
 
-unfoldable pub start_in : World → ℕ → FileRecord → Outcome Answer
+unfoldable pub start_in : World → ℕ → FileRecord → Outcome (Result Answer Refusal)
 start_in w i f =
-    cond (is_empty f) (answering w (End f.first_seq) no_search)
+    cond (is_empty f) (answering w (Ok (End f.first_seq)) no_search)
     (cond (in_shape w.state.page_count f) (sought w (start_of i f)) (kept w (Err Damaged)))
 
-unfoldable pub start : World → ℕ → Outcome Answer
+unfoldable pub start : World → ℕ → Outcome (Result Answer Refusal)
 start w i = checked w w.state.transaction i (λ why. kept w (Err why)) (start_in w i (file_at w.table i))
 
 -- ---- left sets right to the offered page's seq and links; right sets result to the offered start and left past curr_high
@@ -70,18 +71,18 @@ abbrev pub right_of : Search → Stand
 right_of q = record { file = q.file; left = q.high + 1; right = q.right; links = q.right_links; result = q.mid }
 
 -- NoSearch where no position is on offer
-unfoldable pub answered : World → (Search → Stand) → Outcome Answer
+unfoldable pub answered : World → (Search → Stand) → Outcome (Result Answer Refusal)
 answered w f =
     checked w w.state.transaction 0 (λ why. kept w (Err why))
     (cond w.state.search.active (sought w (f w.state.search)) (kept w (Err NoSearch)))
 
-abbrev pub left : World → Outcome Answer
+abbrev pub left : World → Outcome (Result Answer Refusal)
 left w = answered w left_of
 
-abbrev pub right : World → Outcome Answer
+abbrev pub right : World → Outcome (Result Answer Refusal)
 right w = answered w right_of
 
 -- either of them
-abbrev pub turn : Bool → World → Outcome Answer
+abbrev pub turn : Bool → World → Outcome (Result Answer Refusal)
 turn true w = right w
 turn false w = left w

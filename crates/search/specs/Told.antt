@@ -1,9 +1,8 @@
 -- What the code's structs say of a hunt, and what its inner functions say of a page and of a level. Assumes nothing: these are definitions.
-use Rattle.std.specs.Prelude.{◌≡◌, cond, List, ℕ, zero, suc, ◌+◌, ◌<◌, get_or, replicate, Err}
-use Rattle.seq.specs.Ids.{none}
+use Rattle.std.specs.Prelude.{◌≡◌, cond, List, ℕ, zero, suc, ◌+◌, ◌<◌, get_or, Result, Ok, Err, Option, Some, None}
 use Rattle.seq.specs.Seq.{below, span}
 use Rattle.page.specs.declared.DataHeader.{DataHeader}
-use Rattle.page.specs.Page.{Read}
+use Rattle.page.specs.Page.{Read, unreadable}
 use Rattle.chain.specs.Files.{last_of}
 use Rattle.chain.specs.Links.{links_after}
 use Rattle.chain.specs.Steps.{is_page}
@@ -11,50 +10,53 @@ use Rattle.state.specs.declared.types.FileRecord.{FileRecord}
 use Rattle.state.specs.declared.types.Search.{Search}
 use Rattle.state.specs.declared.types.State.{State}
 use Rattle.state.specs.declared.types.Table.{Table}
+use Rattle.state.specs.declared.types.Refusal.{Refusal}
 use Rattle.state.specs.declared.types.Refusal.TheVariants.{Damaged}
-use Rattle.state.specs.Values.{no_search, with_search, is_empty, in_shape}
+use Rattle.state.specs.Values.{no_search, is_empty, in_shape}
 use Rattle.state.specs.World.{World, Outcome, After, after_call, before, in_numbers}
 use Rattle.search.specs.declared.Answer.{Answer}
 use Rattle.search.specs.declared.Answer.TheVariants.{Offer as Offers, End}
-use Rattle.search.specs.declared.SearchOut.{SearchOut}
 use Rattle.search.specs.declared.hunt.Offer.{Offer}
 use Rattle.search.specs.declared.hunt.Seen.{Seen}
 use Rattle.search.specs.declared.hunt.Seen.TheVariants.{Hit as Found, TooLeft, Back, Wrong}
 use Rattle.search.specs.declared.hunt.Aim.{Aim}
-use Rattle.search.specs.declared.hunt.Aim.TheVariants.{At, Past}
-use Rattle.search.specs.declared.hunt.Kind.TheVariants.{Offered, Ended, Broken}
 use Rattle.search.specs.declared.hunt.Hunted.{Hunted}
+use Rattle.search.specs.declared.hunt.Hunted.TheVariants.{Offered, Ended, Broken}
 use Rattle.search.specs.declared.search.Stand.{Stand}
 use Rattle.search.specs.Hunt.{Hit, hit, too_left, wrong, greater, seen_by, seek_to_page, hit_by, Sought, offered, ended, broken, tries, really_seek, hunt}
 use Rattle.search.specs.Search.{answer_numbers, offering, start_of}
 
 -- ---- a call: of all that there is only the search changes
 
-abbrev pub after_search : SearchOut → List ℕ → List ℕ → Table → State → After Answer
-after_search r i m t s = record { answer = r.answer; world = before i m t (with_search s r.search) }
+abbrev pub after_search : Result Answer Refusal → List ℕ → List ℕ → Table → State → After (Result Answer Refusal)
+after_search a i m t s = record { answer = a; world = before i m t s }
 
--- what a call hands back and leaves, in numbers, and what its definition gives
-abbrev pub yields : SearchOut → List ℕ → List ℕ → Table → State → After (List ℕ)
-yields r i m t s = in_numbers answer_numbers (after_search r i m t s)
+-- what a call answers and leaves, in numbers, and what its definition gives
+abbrev pub yields : Result Answer Refusal → List ℕ → List ℕ → Table → State → After (List ℕ)
+yields a i m t s = in_numbers answer_numbers (after_search a i m t s)
 
-abbrev pub promised : (World → Outcome Answer) → World → After (List ℕ)
+abbrev pub promised : (World → Outcome (Result Answer Refusal)) → World → After (List ℕ)
 promised call w = in_numbers answer_numbers (after_call call w)
+
+-- an answer, and the search as it is then
+pub record Searched : Type 0 where
+  pub answer : Result Answer Refusal
+  pub search : Search
+
+abbrev pub searched : Result Answer Refusal → Search → Searched
+searched a q = record { answer = a; search = q }
 
 -- ---- where a hunt stands
 
-abbrev pub no_offer : Offer
-no_offer = record { low = 0; links = replicate 9 none; mid = 0; high = 0 }
-
--- left and offer count only where it is an offer
 abbrev pub told : Sought → Hunted
-told (offered left o) = record { kind = Offered; left = left; offer = o }
-told ended = record { kind = Ended; left = 0; offer = no_offer }
-told broken = record { kind = Broken; left = 0; offer = no_offer }
+told (offered left o) = Offered left o
+told ended = Ended
+told broken = Broken
 
 -- the answer, and the search that stays; old is the one before the call
-abbrev pub replied : Search → Stand → Sought → SearchOut
-replied old s (offered left o) = record { answer = Offers o.mid; search = offering s left o }
-replied old s ended = record { answer = End s.result; search = no_search }
+abbrev pub replied : Search → Stand → Sought → Searched
+replied old s (offered left o) = record { answer = Ok (Offers o.mid); search = offering s left o }
+replied old s ended = record { answer = Ok (End s.result); search = no_search }
 replied old s broken = record { answer = Err Damaged; search = old }
 
 -- ---- a page on the way
@@ -76,6 +78,10 @@ pub record Says (found : (ℕ → ℕ → Hit) → Hit) (target limit : ℕ) (h 
   pub fits : s ≡ Found → h.seq + h.record_boundary < limit
   pub falls : s ≡ Back → h.seq < limit
 
+-- the header of the page that an id names
+abbrev pub named : ℕ → (ℕ → Read) → ℕ → Read
+named count read id = cond (is_page count id) (read id) unreadable
+
 -- page id, on the way
 abbrev pub seen_at : ℕ → (ℕ → Read) → ℕ → ℕ → ℕ → ℕ → (ℕ → ℕ → Hit) → Hit
 seen_at count read left target limit id back = cond (is_page count id) (seen_by left target limit (read id) back) wrong
@@ -83,8 +89,8 @@ seen_at count read left target limit id back = cond (is_page count id) (seen_by 
 -- ---- a level
 
 -- the page that its link names and its number, where it is tried
-abbrev pub aimed : ℕ → ℕ → List ℕ → ℕ → Aim
-aimed left right links i = cond (tries left right links i) (At (get_or links i 0) (below (span i) right)) Past
+abbrev pub aimed : ℕ → ℕ → List ℕ → ℕ → Option Aim
+aimed left right links i = cond (tries left right links i) (Some (record { id = get_or links i 0; target = below (span i) right })) None
 
 -- what the levels below give
 abbrev pub lowered : ℕ → (ℕ → Read) → ℕ → List ℕ → ℕ → ℕ → Sought
@@ -98,9 +104,9 @@ walked count read right links i left target limit id =
 
 -- ---- a start, by the file's record
 
-unfoldable pub begun : Search → ℕ → (ℕ → Read) → ℕ → FileRecord → SearchOut
+unfoldable pub begun : Search → ℕ → (ℕ → Read) → ℕ → FileRecord → Searched
 begun old count read i f =
-    cond (is_empty f) (record { answer = End f.first_seq; search = no_search })
+    cond (is_empty f) (record { answer = Ok (End f.first_seq); search = no_search })
     (cond (in_shape count f)
     (replied old (start_of i f) (hunt count read f.first_seq f.last_seq (links_after (last_of f) f.last_seq)))
     (record { answer = Err Damaged; search = old }))

@@ -1,14 +1,18 @@
 // Trying a level and walking back a page take turns: two functions that call each other.
-ghost use Rattle.std.specs.Prelude.{◌≡◌, ℕ, ◌<◌, ◌+◌};
+ghost use Rattle.std.specs.Prelude.{◌≡◌, ℕ, ◌<◌, ◌+◌, IfSome};
 ghost use Rattle.seq.specs.Seq.{below, span, level};
+ghost use Rattle.page.specs.Page.{gives};
 ghost use Rattle.chain.specs.Steps.{read_at};
-ghost use Rattle.search.specs.Hunt.{greater, passed_over, found_on, seen_on, really_seek, hunt};
-ghost use Rattle.search.specs.Told.{no_offer, offer_on, told, Says, seen_at, aimed, walked};
+ghost use Rattle.search.specs.Hunt.{passed_over, found_on, seen_on, really_seek, hunt};
+ghost use Rattle.search.specs.Told.{offer_on, told, Says, named, aimed, walked};
 
+use crate::search::Stand;
 use page::DataHeader;
+use seq::ids::{NONE, OptionPageID};
+use state::values::NO_BOUNDARY;
 
 // A position: its page's seq and links, the record's start, and Rust's curr_high.
-#[derive(Clone, Copy)]
+#[derive(Clone, Copy, Debug, PartialEq, Eq)]
 pub struct Offer {
     pub low: u32,
     pub links: [u16; 9],
@@ -16,23 +20,16 @@ pub struct Offer {
     pub high: u32,
 }
 
-#[derive(Clone, Copy)]
-pub enum Kind {
-    Offered,
+// Where the hunt stands: an offer with left as it is then, the end, or Damaged.
+#[derive(Clone, Copy, Debug, PartialEq, Eq)]
+pub enum Hunted {
+    Offered { left: u32, offer: Offer },
     Ended,
     Broken,
 }
 
-// Where the hunt stands; left and offer count only where it is an offer.
-#[derive(Clone, Copy)]
-pub struct Hunted {
-    pub kind: Kind,
-    pub left: u32,
-    pub offer: Offer,
-}
-
 // What a page on the way says.
-#[derive(Clone, Copy)]
+#[derive(Clone, Copy, Debug, PartialEq, Eq)]
 pub enum Seen {
     Hit,
     TooLeft,
@@ -40,77 +37,42 @@ pub enum Seen {
     Wrong,
 }
 
-#[derive(Clone, Copy)]
-pub struct Look {
-    pub seen: Seen,
-    pub header: DataHeader,
-}
-
-// A level's page and number, where it is tried.
-#[derive(Clone, Copy)]
-pub enum Aim {
-    At { id: u16, target: u32 },
-    Past,
+// The page of a level that is tried, and the level's number.
+#[derive(Clone, Copy, Debug, PartialEq, Eq)]
+pub struct Aim {
+    pub id: u16,
+    pub target: u32,
 }
 
 // ---- answers
 
-fn no_offer() -> Offer
-    ensures { result ≡ no_offer }
-{
-    Offer {
-        low: 0,
-        links: [65535; 9],
-        mid: 0,
-        high: 0,
-    }
-}
-
-// An end that offers nothing.
-fn without(kind: Kind) -> Hunted
-    ensures { result ≡ record { kind = kind; left = 0; offer = no_offer } }
-{
-    let offer = no_offer();
-    Hunted {
-        kind,
-        left: 0,
-        offer,
-    }
-}
-
-fn greater(a: u32, b: u32) -> u32
-    ensures { result ≡ greater a b }
-{
-    if a <= b { b } else { a }
-}
-
 // The offer that a page makes.
-fn offer_on(target: u32, h: DataHeader) -> Offer
-    requires { h.seq + h.record_boundary < 4294967296 }
-    ensures { result ≡ offer_on target h }
+#[tactic(auto, using(crate::proofs::Levels::greater_max))]
+fn offer_on(target: u32, h: &DataHeader) -> Offer
+    requires { h.now.seq + h.now.record_boundary < 4294967296 }
+    ensures { result ≡ offer_on target h.now }
 {
     let mid = h.seq + (h.record_boundary as u32);
-    let links = h.skiplist;
     Offer {
         low: h.seq,
-        links,
+        links: h.skiplist,
         mid,
-        high: greater(target, mid),
+        high: target.max(mid),
     }
 }
 
 // ---- a page on the way
 
 // A page that starts at or below left is too far left.
-fn passed_over(left: u32, h: DataHeader) -> bool
-    ensures { result ≡ passed_over left h }
+fn passed_over(left: u32, h: &DataHeader) -> bool
+    ensures { result ≡ passed_over left h.now }
 {
     h.seq <= left
 }
 
 // A page that names a boundary.
-fn found_on(left: u32, limit: u32, h: DataHeader) -> Seen
-    ensures { (target : ℕ) → Says (λ back. found_on left target limit h) target limit h result }
+fn found_on(left: u32, limit: u32, h: &DataHeader) -> Seen
+    ensures { (target : ℕ) → Says (λ back. found_on left target limit h.now) target limit h.now result }
 {
     let boundary = h.record_boundary;
     if 224 <= boundary {
@@ -130,55 +92,36 @@ fn found_on(left: u32, limit: u32, h: DataHeader) -> Seen
 }
 
 // A page whose header reads.
-fn seen_on(left: u32, target: u32, limit: u32, h: DataHeader) -> Seen
-    ensures { Says (seen_on left target limit h) target limit h result }
+fn seen_on(left: u32, target: u32, limit: u32, h: &DataHeader) -> Seen
+    ensures { Says (seen_on left target limit h.now) target limit h.now result }
 {
-    let seq = h.seq;
-    if limit <= seq {
+    if limit <= h.seq {
         return Seen::Wrong;
     }
-    if target < seq {
+    if target < h.seq {
         return Seen::Wrong;
     }
     if passed_over(left, h) {
         return Seen::TooLeft;
     }
-    if h.record_boundary != 65535 {
+    if h.record_boundary != NO_BOUNDARY {
         return found_on(left, limit, h);
     }
-    let prev = h.skiplist[0];
-    if prev == 65535 {
+    if h.skiplist[0] == NONE {
         return Seen::Wrong;
     }
     Seen::Back
 }
 
-// A page by its id.
-fn look_at(image: &[u8], count: usize, left: u32, target: u32, limit: u32, id: u16) -> Look
-    ensures { Says (seen_at count (read_at image.now) left target limit id) target limit result.header result.seen }
+// The header of the page that an id names.
+fn header_at(image: &[u8], count: usize, id: u16) -> Option<DataHeader>
+    ensures { result ≡ gives (named count (read_at image.now) id) }
 {
-    if id == 65535 {
-        return Look {
-            seen: Seen::Wrong,
-            header: state::values::no_header(),
-        };
-    }
-    let at = id as usize;
-    if count <= at {
-        return Look {
-            seen: Seen::Wrong,
-            header: state::values::no_header(),
-        };
-    }
-    let read = page::header_at(image, at);
-    let header = read.header;
-    if read.ok {
-        let seen = seen_on(left, target, limit, header);
-        return Look { seen, header };
-    }
-    Look {
-        seen: Seen::Wrong,
-        header,
+    let at = OptionPageID::from_raw(id).into_option()?.index();
+    if at < count {
+        page::header_at(image, at)
+    } else {
+        None
     }
 }
 
@@ -187,33 +130,30 @@ fn look_at(image: &[u8], count: usize, left: u32, target: u32, limit: u32, id: u
 // A level's number, which a jump by its link leads to.
 fn target_of(right: u32, level: usize) -> u32
     requires { (0 < right) × (level < 9) }
-    ensures { result ≡ below (span level) right }
+    ensures number { result ≡ below (span level) right }
+    ensures bound { result < 4294967295 }
 {
-    let jump = seq::numbers::skiplist_seq(right, level);
-    match jump {
-        seq::numbers::Answer::Number(n) => n,
-        seq::numbers::Answer::Range => 0,
-        seq::numbers::Answer::SeqEnd => 0,
-    }
+    seq::numbers::skiplist_seq(right, level).unwrap_or(0)
 }
 
-// Whether a level is tried.
-fn aim_at(left: u32, right: u32, links: [u16; 9], level: usize) -> Aim
+// Where a level is tried.
+fn aim_at(left: u32, s: &Stand, level: usize) -> Option<Aim>
     requires { level < 9 }
-    ensures { result ≡ aimed left right links level }
+    ensures aim { result ≡ aimed left s.now.right s.now.links level }
+    ensures bound { IfSome result (λ aim. aim.target < 4294967295) }
 {
-    let id = links[level];
-    if right <= left {
-        return Aim::Past;
+    let id = s.links[level];
+    if s.right <= left {
+        return None;
     }
-    if id == 65535 {
-        return Aim::Past;
+    if id == NONE {
+        return None;
     }
-    let target = target_of(right, level);
+    let target = target_of(s.right, level);
     if target < left {
-        return Aim::Past;
+        return None;
     }
-    Aim::At { id, target }
+    Some(Aim { id, target })
 }
 
 // The level that a hunt begins at.
@@ -228,25 +168,19 @@ fn first_level(left: u32, right: u32) -> usize
 
 // Tries a level, and the levels below it.
 #[cycle(really_seek_seek_to_page)]
-fn really_seek(
-    image: &[u8],
-    count: usize,
-    right: u32,
-    links: [u16; 9],
-    level: usize,
-    left: u32,
-) -> Hunted
+fn really_seek(image: &[u8], count: usize, s: &Stand, level: usize, left: u32) -> Hunted
     requires { level < 9 }
-    ensures { result ≡ told (really_seek count (read_at image.now) right links level left) }
+    ensures { result ≡ told (really_seek count (read_at image.now) s.now.right s.now.links level left) }
 {
-    let aimed = aim_at(left, right, links, level);
-    let Aim::At { id, target } = aimed else {
-        if level == 0 {
-            return without(Kind::Ended);
-        }
-        return really_seek(image, count, right, links, level - 1, left);
-    };
-    seek_to_page(image, count, right, links, level, left, target, right, id)
+    let right = s.right;
+    prove!(right <= u32::MAX);
+    if let Some(aim) = aim_at(left, s, level) {
+        return seek_to_page(image, count, s, level, left, aim.target, right, aim.id);
+    }
+    if level == 0 {
+        return Hunted::Ended;
+    }
+    really_seek(image, count, s, level - 1, left)
 }
 
 // Walks back from a page whose seq is to lie below the limit; too far left, it is the next level's turn.
@@ -254,8 +188,7 @@ fn really_seek(
 fn seek_to_page(
     image: &[u8],
     count: usize,
-    right: u32,
-    links: [u16; 9],
+    s: &Stand,
     level: usize,
     left: u32,
     target: u32,
@@ -263,43 +196,34 @@ fn seek_to_page(
     id: u16,
 ) -> Hunted
     requires { (level < 9) × (target < 4294967295) }
-    ensures { result ≡ told (walked count (read_at image.now) right links level left target limit id) }
+    ensures { result ≡ told (walked count (read_at image.now) s.now.right s.now.links level left target limit id) }
 {
-    let page = look_at(image, count, left, target, limit, id);
-    let seen = page.seen;
-    let header = page.header;
-    // each arm returns by itself: joined, the result is copied once more, in pieces that do not match
-    match seen {
-        Seen::Wrong => {
-            return without(Kind::Broken);
-        }
-        Seen::Hit => {
-            let offer = offer_on(target, header);
-            return Hunted {
-                kind: Kind::Offered,
-                left,
-                offer,
-            };
-        }
+    let Some(header) = header_at(image, count, id) else {
+        return Hunted::Broken;
+    };
+    match seen_on(left, target, limit, &header) {
+        Seen::Wrong => Hunted::Broken,
+        Seen::Hit => Hunted::Offered {
+            left,
+            offer: offer_on(target, &header),
+        },
         Seen::TooLeft => {
             if level == 0 {
-                return without(Kind::Ended);
+                return Hunted::Ended;
             }
-            return really_seek(image, count, right, links, level - 1, target + 1);
+            really_seek(image, count, s, level - 1, target + 1)
         }
         Seen::Back => {
             let prev = header.skiplist[0];
-            return seek_to_page(
-                image, count, right, links, level, left, target, header.seq, prev,
-            );
+            seek_to_page(image, count, s, level, left, target, header.seq, prev)
         }
     }
 }
 
 // The first level, and the levels below it.
-pub fn hunt(image: &[u8], count: usize, left: u32, right: u32, links: [u16; 9]) -> Hunted
-    ensures { result ≡ told (hunt count (read_at image.now) left right links) }
+pub fn hunt(image: &[u8], count: usize, s: &Stand) -> Hunted
+    ensures { result ≡ told (hunt count (read_at image.now) s.now.left s.now.right s.now.links) }
 {
-    let level = first_level(left, right);
-    really_seek(image, count, right, links, level, left)
+    let level = first_level(s.left, s.right);
+    really_seek(image, count, s, level, s.left)
 }

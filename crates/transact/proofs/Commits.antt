@@ -19,8 +19,7 @@ use Rattle.map.specs.Map.{alloc_of, released, unheld, free, held, used}
 use Rattle.map.proofs.Laws.{split, alloc_found, released_at}
 use Rattle.metalog.specs.declared.Entry.{Entry}
 use Rattle.metalog.specs.declared.Files.{Files}
-use Rattle.metalog.specs.declared.Replay.{Replay}
-use Rattle.metalog.specs.Log.{log_end, rest_erased, fits, sound, adds, fresh, replay_of}
+use Rattle.metalog.specs.Log.{Replay, log_end, rest_erased, fits, sound, adds, fresh, replay_of}
 use Rattle.metalog.specs.Batch.{entry_for, batch_stores}
 use Rattle.metalog.proofs.Runs.{chosen_few}
 use Rattle.metalog.proofs.Table.{Typed, Agree, typed_none, replay_typed, adds_good, chosen_fit, chosen_sounds, replay_chosen, append_replay, new_replay, end_reads}
@@ -32,7 +31,7 @@ use Rattle.state.specs.Checks.{checks}
 use Rattle.state.specs.World.{World, Outcome, refuse}
 use Rattle.state.proofs.Laws.{both, Passed, checks_pass}
 use Rattle.transact.specs.Commit.{files_of, dirty_files, live_files, committed, moved_to, moved, commit}
-use Rattle.transact.proofs.Entries.{map_at}
+use Rattle.std.proofs.lemmas.List.{get_or-map}
 use Rattle.transact.proofs.Exits.{Checked, batch_of, commit_refused, commit_none, commit_some, batch_damaged, batch_fits, batch_moved, moved_end, moved_full, moved_page}
 
 -- ---- the three ways of a commit that is done
@@ -138,8 +137,8 @@ module _ (w : World) (ready : Ready w) (passed : Passed (length w.image) (length
   left_out j h m =
       let n : length w.table.files ≡ 8 = sym (length-map w.table.files (λ (f : FileRecord). f.last_page)) ∙ ready.typed.lasts in
       let f = get_or w.table.files j absent in
-      let e : not (is_empty f) ≡ false = sym (map_at (λ (f : FileRecord). not (is_empty f)) w.table.files j absent false (omega arith)) ∙ m in
-      map_at (λ (f : FileRecord). f.last_page) w.table.files j absent 0 (omega arith) ∙ by (is_empty f) refl e
+      let e : not (is_empty f) ≡ false = sym (get_or-map (λ (f : FileRecord). not (is_empty f)) w.table.files j absent false (omega arith)) ∙ m in
+      get_or-map (λ (f : FileRecord). f.last_page) w.table.files j absent 0 (omega arith) ∙ by (is_empty f) refl e
     where
       by : (b : Bool) → is_empty (get_or w.table.files j absent) ≡ b → not b ≡ false → (get_or w.table.files j absent).last_page ≡ none
       by true t e = eqb-true _ _ t

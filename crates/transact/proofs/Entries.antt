@@ -1,105 +1,68 @@
--- The rows of a table: one more, and the entries that they make. Assumes nothing.
-use mathlib.Core.Path.{◌≡◌, refl, sym, ◌∙◌, ap}
-use mathlib.Core.Bool.{Bool, false, not}
-use mathlib.Core.List.{List, [], ◌∷◌, map}
+-- A list of a field of a table's files. Assumes nothing.
+use mathlib.Core.Path.{◌≡◌, refl, sym, ◌∙◌, ap, subst}
+use mathlib.Core.List.{List, map}
 use Prim.Native.Nat.{ℕ, zero, suc, ◌+◌, ◌≤◌, ◌<◌}
 use native.Mathlib.Omega.{arith}
-use lib.ListN.{length, get_or, set, length-set}
-use lib.Seq.{get_or-set_same, get_or-set_other}
-use mir.Val.{Val}
-use denote.Laws.{Is}
-use Rattle.map.proofs.Laws.{split}
-use Rattle.metalog.specs.declared.Files.{Files}
-use Rattle.metalog.specs.Batch.{entry_for, chosen_from, chosen, marked}
-use Rattle.metalog.proofs.Runs.{length_chosen}
+use borrow.Author.Tests.{eqb-true, eqb-false}
+use mathlib.Core.Bool.{Bool, true, false}
+use lib.Dec.{eqb}
+use lib.ListN.{length, get_or, set, length-map, length-set}
+use lib.Seq.{get_or-set_same, get_or-set_other, set-set, set_comm}
+use denote.Param.Members.{Mut, Called}
+use Rattle.std.specs.Array.{IsFromFnResult, IsFromFnResultFrom}
+use Rattle.std.proofs.lemmas.List.{get_or-map, same_lists}
 use Rattle.state.specs.declared.types.FileRecord.{FileRecord}
-use Rattle.state.specs.declared.types.Table.{Table}
-use Rattle.state.specs.Values.{file_at, absent, is_empty}
-use Rattle.state.specs.contracts.types.Table as T
-use Rattle.transact.specs.declared.rows.Rows.{Rows}
-use Rattle.transact.specs.Commit.{files_of, dirty_files, live_files}
-use Rattle.transact.specs.Rows.{no_rows, put_row, files_in, Upto, RowsTo}
+use Rattle.state.specs.Values.{absent}
 
--- a table that a caller hands in has eight files
-pub table_eight : (t : Table) (vs : List Val) → Is T.the_row t vs → length t.files ≡ 8
-table_eight t vs p = p.1.1.0.1.0.1
+-- an array by a function that stays as it is, and gives at each index a value of that file
+module _ {F B : Type 0} (g : Mut F (ℕ × Unit {0}) B) (f : F) (ys : List B) (fs : List FileRecord) (v : FileRecord → B)
+    (at_each : (i : ℕ) (y : B) (q : F) → Called g f (i, tt) y q → (q ≡ f) × (y ≡ v (get_or fs i absent))) where
+  made_from : (i n : ℕ) (p : F) → p ≡ f → IsFromFnResultFrom g p ys i n → (k : ℕ) (d : B) → i ≤ k → k < i + n → get_or ys k d ≡ v (get_or fs k absent)
+  made_from i zero p e m k d low high = absurd (omega arith)
+  made_from i (suc n) p e (q, y, is, called, rest) k d low high =
+      let s = at_each i y q (subst (λ (x : F). Called g x (i, tt) y q) e called) in
+      by s (eqb k i) refl (λ l. made_from (i + 1) n q s.0 rest k d l (omega arith))
+    where
+      by : (q ≡ f) × (y ≡ v (get_or fs i absent)) → (b : Bool) → eqb k i ≡ b → (i + 1 ≤ k → get_or ys k d ≡ v (get_or fs k absent))
+          → get_or ys k d ≡ v (get_or fs k absent)
+      by s true t r = let z : k ≡ i = eqb-true k i t in rw z (is.1 d ∙ s.1)
+      by s false t r = let z = eqb-false k i t in r (omega arith)
 
--- ---- one row more
+  made_all : IsFromFnResult g f ys 8 → length fs ≡ 8 → ys ≡ map v fs
+  made_all m eight =
+      same_lists ys (map v fs) (m.long ∙ sym eight ∙ sym (length-map fs v))
+      (λ k d h. let l : k < 8 = omega (arith, m.long) in made_from 0 8 f refl m.each k d (omega arith) (omega arith) ∙ sym (get_or-map v fs k absent d (omega arith)))
 
-upto_more : {A : Type 0} (d : A) (g : ℕ → A) (i : ℕ) (l : List A) → i < 8 → Upto d g i l → Upto d g (i + 1) (set l i (g i))
-upto_more d g i l h u =
-    record {
-      eight = length-set l i (g i) ∙ u.eight;
-      are = λ j k. split i j
-          (λ a. let z : j ≡ i = omega arith in rw z (get_or-set_same l i (g i) d (omega (arith, u.eight))))
-          (λ a. get_or-set_other l i j (g i) d (λ z. omega arith) ∙ u.are j a);
-    }
+-- so it has each file's
+pub made_fields : {F B : Type 0} {g : Mut F (ℕ × Unit {0}) B} {f : F} {ys : List B} (fs : List FileRecord) (v : FileRecord → B)
+    → IsFromFnResult g f ys 8 → length fs ≡ 8
+    → ((i : ℕ) (y : B) (q : F) → Called g f (i, tt) y q → (q ≡ f) × (y ≡ v (get_or fs i absent)))
+    → ys ≡ map v fs
+made_fields {F} {B} {g} {f} {ys} fs v m eight at_each = made_all g f ys fs v at_each m eight
 
-upto_none : {A : Type 0} (d : A) (g : ℕ → A) (l : List A) → length l ≡ 8 → Upto d g 0 l
-upto_none d g l e = record { eight = e; are = λ j k. absurd (omega arith) }
+-- two that are swapped and then marked were marked and swapped
+module _ {X : Type 0} (mark : X → X) (once : (x : X) → mark (mark x) ≡ mark x) (l : List X) (i j : ℕ) (d : X) (h : i < length l) (k : j < length l) where
+  abbrev both_marked : List X → List X
+  both_marked s = let t = set s i (mark (get_or s i d)) in set t j (mark (get_or t j d))
 
-pub rows_none : (t : Table) → RowsTo t 0 no_rows
-rows_none t =
-    record {
-      last = upto_none 0 _ _ refl;
-      first = upto_none 0 _ _ refl;
-      flags = upto_none 0 _ _ refl;
-      dirty = upto_none false _ _ refl;
-      live = upto_none false _ _ refl;
-    }
+  pub marked_swap : (s : List X) → s ≡ set (set l i (get_or l j d)) j (get_or l i d) → both_marked s ≡ set (set l i (mark (get_or l j d))) j (mark (get_or l i d))
+  marked_swap s e = ap both_marked e ∙ by (eqb i j) refl
+    where
+      by : (b : Bool) → eqb i j ≡ b → both_marked (set (set l i (get_or l j d)) j (get_or l i d)) ≡ set (set l i (mark (get_or l j d))) j (mark (get_or l i d))
+      by true t = let z : j ≡ i = sym (eqb-true i j t) in rw z (rw (set-set l i x x, get_or-set_same l i x d h, get_or-set_same (set l i x) i (mark x) d (rw (length-set l i x) h), once x) (simp set-set))
+        where
+          x : X
+          x = get_or l i d
+      by false t =
+          let n = eqb-false i j t in
+          let m : j ≡ i → ⊥ = λ e. n (sym e) in
+          let u : get_or (set (set l i y) j x) i d ≡ y = get_or-set_other (set l i y) j i x d n ∙ get_or-set_same l i y d h in
+          let v : get_or (set (set (set l i y) j x) i (mark y)) j d ≡ x =
+          get_or-set_other (set (set l i y) j x) i j (mark y) d m ∙ get_or-set_same (set l i y) j x d (rw (length-set l i y) k) in
+          rw (u, v, set_comm (set l i y) j i x (mark y) m, set-set l i y (mark y), set-set (set l i (mark y)) j x (mark x)) refl
+        where
+          x : X
+          x = get_or l i d
 
-pub rows_more : (t : Table) (i : ℕ) (r : Rows) → i < 8 → RowsTo t i r → RowsTo t (i + 1) (put_row r i (file_at t i))
-rows_more t i r h o =
-    record {
-      last = upto_more 0 (λ j. (file_at t j).last_page) i r.last h o.last;
-      first = upto_more 0 (λ j. (file_at t j).first_seq) i r.first h o.first;
-      flags = upto_more 0 (λ j. (file_at t j).flags) i r.flags h o.flags;
-      dirty = upto_more false (λ j. (file_at t j).dirty) i r.dirty h o.dirty;
-      live = upto_more false (λ j. not (is_empty (file_at t j))) i r.live h o.live;
-    }
-
--- ---- the entries
-
--- what a list of a field has at each file
-pub map_at : {A B : Type 0} (g : A → B) (l : List A) (j : ℕ) (d : A) (e : B) → j < length l → get_or (map g l) j e ≡ g (get_or l j d)
-map_at g [] j d e h = absurd (omega arith)
-map_at g (x ∷ l) zero d e h = refl
-map_at g (x ∷ l) (suc j) d e h = map_at g l j d e (omega arith)
-
--- files and marks that agree on the eight files have the same entries
-chosen_same : (f g : Files) (m n : List Bool) → ((j : ℕ) → j < 8 → entry_for f j ≡ entry_for g j) → ((j : ℕ) → j < 8 → get_or m j false ≡ get_or n j false)
-    → chosen f m ≡ chosen g n
-unfolding chosen
-chosen_same f g m n e h = go 0 8 (omega arith)
-  where
-    go : (i k : ℕ) → i + k ≤ 8 → chosen_from f m i k ≡ chosen_from g n i k
-    go i zero a = refl
-    go i (suc k) a = rw (h i (omega arith), e i (omega arith), go (suc i) k (omega arith))
-
-module _ (t : Table) (r : Rows) (eight : length t.files ≡ 8) (o : RowsTo t 8 r) where
-  field_at : {B : Type 0} (g : FileRecord → B) (d : B) (l : List B) → Upto d (λ j. g (file_at t j)) 8 l → (j : ℕ) → j < 8
-      → get_or l j d ≡ get_or (map g t.files) j d
-  field_at g d l u j h = u.are j h ∙ sym (map_at g t.files j absent d (omega arith))
-
-  rows_entry : (j : ℕ) → j < 8 → entry_for (files_in r) j ≡ entry_for (files_of t) j
-  rows_entry j h =
-      let a = field_at (λ (f : FileRecord). f.last_page) 0 r.last o.last j h in
-      let b = field_at (λ (f : FileRecord). f.first_seq) 0 r.first o.first j h in
-      let c = field_at (λ (f : FileRecord). f.flags) 0 r.flags o.flags j h in
-      λ k. record { file = j; flags = c k; last = a k; first = b k }
-
-  -- those of the dirty files
-  pub rows_dirty : chosen (files_in r) r.dirty ≡ dirty_files t
-  rows_dirty =
-      chosen_same (files_in r) (files_of t) r.dirty (map (λ (f : FileRecord). f.dirty) t.files) rows_entry
-      (field_at (λ (f : FileRecord). f.dirty) false r.dirty o.dirty)
-
-  -- how many they are
-  pub rows_count : marked r.dirty ≡ length (dirty_files t)
-  rows_count = sym (length_chosen (files_in r) r.dirty) ∙ ap length rows_dirty
-
-  -- and of all that are not empty
-  pub rows_live : chosen (files_in r) r.live ≡ live_files t
-  rows_live =
-      chosen_same (files_in r) (files_of t) r.live (map (λ (f : FileRecord). not (is_empty f)) t.files) rows_entry
-      (field_at (λ (f : FileRecord). not (is_empty f)) false r.live o.live)
+          y : X
+          y = get_or l j d

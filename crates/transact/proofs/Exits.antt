@@ -1,17 +1,16 @@
--- One law for each exit of a call's definition, and what the code hands back there. Assumes nothing.
-use Rattle.std.specs.Prelude.{Some, None, Ok, Err}
-use mathlib.Core.Path.{◌≡◌, refl, sym, ◌∙◌, ap}
+-- One law for each exit of a call's definition. Assumes nothing.
+use Rattle.std.specs.Prelude.{Some, None, Err}
+use mathlib.Core.Path.{◌≡◌, refl, ◌∙◌, ap}
 use mathlib.Core.Bool.{Bool, true, false, cond, ◌&&◌}
 use mathlib.Core.List.{List, []}
-use Prim.Native.Nat.{ℕ, ◌+◌, ◌≤◌, ◌<◌}
+use Prim.Native.Nat.{ℕ}
 use native.Mathlib.Omega.{arith}
-use borrow.Author.Tests.{lt-ltb, le-ltb, eq-eqb, ne_eqb}
-use lib.ListN.{length, set}
+use borrow.Author.Tests.{eq-eqb, ne_eqb}
+use lib.ListN.{length}
 use Rattle.seq.specs.Ids.{none}
-use Rattle.page.specs.Store.{Store, ran}
-use Rattle.map.specs.Map.{alloc_of, released, used, free, beyond}
+use Rattle.map.specs.Map.{alloc_of}
 use Rattle.metalog.specs.Log.{log_end, rest_erased, fits}
-use Rattle.metalog.specs.Batch.{batch_stores, new_meta_stores}
+use Rattle.metalog.specs.Batch.{batch_stores}
 use Rattle.chain.specs.Files.{last_of}
 use Rattle.chain.specs.Steps.{read_at, Sought, damaged, at, walk}
 use Rattle.chain.specs.Seek.{found_by}
@@ -19,74 +18,26 @@ use Rattle.state.specs.declared.types.FileRecord.{FileRecord}
 use Rattle.state.specs.declared.types.Table.{Table}
 use Rattle.state.specs.declared.types.State.{State}
 use Rattle.state.specs.declared.types.Refusal.{Refusal}
-use Rattle.state.specs.declared.types.Refusal.TheVariants.{BadFile, Damaged, NoRoom, SeqEnd}
-use Rattle.state.specs.declared.types.Out.{Out}
-use Rattle.state.specs.Values.{file_at, with_flags, in_shape, opened, closed, with_meta, with_cursor}
-use Rattle.state.specs.Refusals.{numbers, on_done, Done, fine}
+use Rattle.state.specs.declared.types.Refusal.TheVariants.{Damaged, NoRoom, SeqEnd}
+use Rattle.state.specs.Values.{file_at, in_shape}
+use Rattle.state.specs.Refusals.{Done, fine}
 use Rattle.state.specs.Checks.{checks}
-use Rattle.state.specs.World.{World, Outcome, ended, after_call, kept, refuse, after, promised}
-use Rattle.state.proofs.Numbers.{numbers_same, outcome_same}
-use Rattle.transact.specs.Truncate.{emptied, new_first, cut, unreached, held_all, changed_file, truncated_by, truncate_in, truncate}
-use Rattle.transact.specs.Rename.{swapped, changed_table, rename, flags}
-use Rattle.transact.specs.declared.flags.Flagged.{Flagged}
-use Rattle.transact.specs.Flags.{after_flags, flags_yield, flags_answer, flags_table}
-use Rattle.transact.specs.Commit.{dirty_files, live_files, committed, moved_to, moved, appended_at, commit_batch, commit}
-use Rattle.transact.specs.Handed.{refused, changed}
+use Rattle.state.specs.World.{World, Outcome, after_call, refuse, after, yields, promised}
+use Rattle.state.proofs.Numbers.{promise_same}
+use Rattle.transact.specs.Truncate.{new_first, cut, unreached, held_all, changed_file, truncated_by, truncate_in, truncate}
+use Rattle.transact.specs.Commit.{dirty_files, committed, moved_to, moved, appended_at, commit_batch, commit}
 use Rattle.transact.specs.Walks.{follows}
-
--- ---- what is handed back
-
--- a refusal that the definition gives too
-pub refused_is : (call : World → Outcome Done) (w : World) (r : Out) (why : Refusal) → r ≡ refused w.table w.state why
-    → call w ≡ refuse w why → after r w.image w.map ≡ after_call call w
-refused_is call w r why e f = ap (λ (x : Out). after x w.image w.map) e ∙ sym (ap (ended w) f)
-
--- a change of one file, and of the map
-pub changed_is : (call : World → Outcome Done) (w : World) (r : Out) (i : ℕ) (g f : FileRecord) (m n : List ℕ) → r ≡ changed w.table w.state i g → g ≡ f → m ≡ n
-    → call w ≡ changed_file w i n f → after r w.image m ≡ after_call call w
-changed_is call w r i g f m n e h k c =
-    ap (λ (x : Out). after x w.image m) (e ∙ ap (changed w.table w.state i) h)
-    ∙ ap (after (changed w.table w.state i f) w.image) k
-    ∙ sym (ap (ended w) c)
 
 -- ---- checks 1 to 4
 
 abbrev pub Checked : World → ℕ → Done → Type 0
 Checked w i d = checks (length w.image) (length w.map) w.state w.state.writer.active i ≡ d
 
--- ---- rename
-
-module _ (w : World) (i j : ℕ) where
-  pub rename_refused : (why : Refusal) → Checked w i (Err why) → rename w i j ≡ refuse w why
-  unfolding rename
-  rename_refused why e = rw e
-
-  pub rename_bad : Checked w i fine → 7 < j → rename w i j ≡ refuse w BadFile
-  unfolding rename
-  rename_bad e h = rw (e, lt-ltb 7 j h)
-
-  pub rename_done : (t : Table) (s : State) → Checked w i fine → j ≤ 7 → t ≡ swapped w.table i j → s ≡ opened w.state
-      → after (record { answer = fine; table = t; state = s }) w.image w.map ≡ after_call (λ w. rename w i j) w
-  unfolding rename
-  rename_done t s e h g k = rw (e, le-ltb 7 j h, g, k)
-
 -- ---- truncate
 
 module _ (w : World) (i bytes : ℕ) where
   abbrev file : FileRecord
   file = file_at w.table i
-
-  pub truncate_refused : (why : Refusal) → Checked w i (Err why) → truncate w i bytes ≡ refuse w why
-  unfolding truncate
-  truncate_refused why e = rw e
-
-  pub truncate_none : Checked w i fine → bytes ≡ 0 → truncate w i bytes ≡ kept w fine
-  unfolding truncate
-  truncate_none e h = rw (e, eq-eqb bytes 0 h)
-
-  pub truncate_empty : Checked w i fine → (bytes ≡ 0 → ⊥) → file.last_page ≡ none → truncate w i bytes ≡ changed_file w i w.map emptied
-  unfolding truncate truncate_in
-  truncate_empty e h k = rw (e, ne_eqb bytes 0 h, eq-eqb file.last_page none k)
 
   abbrev ends : Sought
   ends = (walk w.state.page_count (read_at w.image) file.first_seq (last_of file)).ends
@@ -172,36 +123,9 @@ module _ (w : World) where
   unfolding moved
   moved_page p h e = rw (ne_eqb w.state.meta_seq 4294967295 h, e)
 
-  -- what is there after a move, and after any other commit
-  pub moved_done : (p : ℕ) (img m : List ℕ) (s : State) → (w.state.meta_seq ≡ 4294967295 → ⊥)
-      → alloc_of w.map w.state.page_count w.state.cursor ≡ Some p
-      → img ≡ ran w.image (new_meta_stores p (record { page_count = w.state.page_count; seq = w.state.meta_seq + 1 }) (live_files w.table))
-      → m ≡ set (released (set w.map p used)) w.state.meta_page free
-      → s ≡ closed (with_cursor (with_meta w.state p (w.state.meta_seq + 1)) (beyond w.state.page_count p))
-      → after (record { answer = fine; table = w.table; state = s }) img m ≡ after_call moved w
-  unfolding moved
-  moved_done p img m s h e a b c = rw (ne_eqb w.state.meta_seq 4294967295 h, e, a, b, c)
-
-  pub committed_is : (call : World → Outcome Done) (l : List Store) (img m : List ℕ) (s : State) → call w ≡ committed w l
-      → img ≡ ran w.image l → m ≡ released w.map → s ≡ closed w.state
-      → after (record { answer = fine; table = w.table; state = s }) img m ≡ after_call call w
-  committed_is call l img m s e a b c = rw (a, b, c) (sym (ap (ended w) e))
-
 -- ---- flags
 
--- the answer and the table by value are what the definition leaves
-pub flags_is : (w : World) (i n : ℕ) (a : Flagged) (t : Table) → a ≡ flags_answer (length w.image) (length w.map) w.state i
-    → t ≡ flags_table (length w.image) (length w.map) w.table w.state i n → after_flags a t w.image w.map ≡ after_call (λ w. flags w i n) w
-unfolding flags flags_answer flags_table
-flags_is w i n a t e h = rw (e, h) (by (checks (length w.image) (length w.map) w.state w.state.writer.active i))
-  where
-    by : (d : Done)
-        → after_flags (on_done d (λ why. record { answer = Err why; state = w.state }) (record { answer = fine; state = opened w.state }))
-        (on_done d (λ why. w.table) (with_flags w.table i n)) w.image w.map
-        ≡ ended w (on_done d (refuse w) (changed_table w (with_flags w.table i n)))
-    by (Err why) = refl
-    by (Ok u) = refl
-
--- a promise of it that is kept in numbers is kept
-pub flags_same : (call : World → Outcome Done) (w : World) (r : Flagged) (t : Table) (i m : List ℕ) → flags_yield r t i m ≡ promised call w → after_flags r t i m ≡ after_call call w
-flags_same call w r t i m e = outcome_same numbers numbers_same (after_flags r t i m) (after_call call w) e
+-- a promise of a change of flags that is kept in numbers is kept
+pub flags_same : (call : World → Outcome Done) (w : World) (a : Done) (i m : List ℕ) (t : Table) (s : State)
+    → yields a i m t s ≡ promised call w → after a i m t s ≡ after_call call w
+flags_same = promise_same

@@ -3,7 +3,7 @@
 use mathlib.Core.Path.{◌≡◌, refl, sym, ◌∙◌, ap}
 use mathlib.Core.Bool.{Bool, true, false, cond, ◌&&◌}
 use mathlib.Core.List.{List, [], ◌∷◌}
-use Prim.Native.Nat.{ℕ, ◌≤◌}
+use Prim.Native.Nat.{ℕ, ◌≤◌, ◌<◌}
 use borrow.Author.Tests.{eqb-true, eqb-false, eq-eqb, ne_eqb}
 use lib.Dec.{eqb}
 use lib.ListN.{set}
@@ -11,17 +11,21 @@ use lib.Seq.{set-set, set_comm}
 use Rattle.map.specs.Map.{held}
 use Rattle.chain.specs.declared.PagePointer.{PagePointer}
 use Rattle.chain.specs.declared.Place.{Place}
-use Rattle.chain.specs.declared.Reached.{Reached}
+use Rattle.std.specs.Prelude.{Some, None}
+use Rattle.std.proofs.lemmas.Option.{same_Some}
 use Rattle.chain.specs.Files.{last_of}
-use Rattle.chain.specs.Steps.{read_at, at, Trace, stop, through, walk}
+use Rattle.chain.specs.declared.Step.{Step}
+use Rattle.chain.specs.declared.Step.TheVariants.{Stays, Reaches, Breaks}
+use Rattle.chain.specs.Steps.{read_at, back_rule, step, at, Trace, stop, through, walk}
 use Rattle.chain.specs.Seek.{found}
-use Rattle.chain.specs.Back.{place_of, walk_back, reached_by}
-use Rattle.chain.proofs.Edges.{Edge, edge, parts_end, back_ok, back_path, reached_ok, reached_place}
+use Rattle.chain.specs.Back.{place_of, wide, told_back, walk_back, reached_by}
+use Rattle.chain.proofs.Places.{says_back}
+use Rattle.chain.proofs.Edges.{ends_not, ends_through, Edge, edge, parts_end, back_ok, back_path, reached_place, reached_none}
 use Rattle.state.specs.declared.types.FileRecord.{FileRecord}
 use Rattle.state.specs.Values.{in_shape}
 use Rattle.state.proofs.Laws.{both}
 use Rattle.transact.specs.Truncate.{others, unreached, held_all}
-use Rattle.transact.specs.Walks.{Ends, follows, edge_of}
+use Rattle.transact.specs.Walks.{Ends, follows, edge_of, edge_at}
 
 -- ---- the pages that are held
 
@@ -44,6 +48,26 @@ module _ (last : ℕ) (m : List ℕ) (t : Trace) where
       ap (λ (x : List ℕ). held_all x (others last u.path)) h
       ∙ held_one last m j u.path
       ∙ sym (ap (λ (x : Trace). held_all m (others last x.path)) e)
+
+module _ (count : ℕ) (img : List ℕ) (limit last : ℕ) (p : Place) (ends : Ends img count p limit) (m : List ℕ) where
+  abbrev back_step : Step Place
+  back_step = told_back (step (back_rule count limit) (read_at img) (wide p))
+
+  abbrev held_from : List ℕ → Place → List ℕ
+  held_from l q = held_all l (others last (walk_back count (read_at img) limit q).path)
+
+  -- where the step back reaches a page, it is held, and then those after it
+  pub held_on : (q : Place) (m' : List ℕ) → Reaches q ≡ back_step → m' ≡ held_all m (others last (q.page_id ∷ []))
+      → (q.seq < p.seq) × Ends img count q limit × (held_from m' q ≡ held_from m p)
+  held_on q m' s h =
+      let w = says_back count (read_at img) limit p (Reaches q) s in
+      (w.1, ends_through (wide p) (wide q) _ _ _ w.0 ends, held_reaches last m _ m' q.page_id _ w.0 h)
+
+  -- where it reaches none, the walk is at its end
+  pub held_ended : (x : Step Place) → x ≡ back_step → ((q : Place) → x ≡ Reaches q → ⊥) → m ≡ held_from m p
+  held_ended Stays s n = held_stays last m _ (wide p) (says_back count (read_at img) limit p Stays s)
+  held_ended Breaks s n = absurd (ends_not (wide p) _ ends (says_back count (read_at img) limit p Breaks s))
+  held_ended (Reaches q) s n = absurd (n q refl)
 
 -- a page that is held stays so
 others_held : (p : ℕ) (m l : List ℕ) → set m p held ≡ m → held_all m (others p l) ≡ held_all m l
@@ -75,29 +99,45 @@ module _ (img : List ℕ) (count : ℕ) (f : FileRecord) where
   follows_says h = both (in_shape count f) _ h
 
   -- by what the code found of the shape and of the two walks
-  pub follows_unshaped : in_shape count f ≡ false → false ≡ follows img count f
-  unfolding follows
-  follows_unshaped h = rw h
-
-  module _ (first : ℕ) (up : f.first_seq ≤ first) (shaped : in_shape count f ≡ true)
-      (l : Place) (last : l ≡ place_of (last_of f)) (x : Reached) (r : x ≡ reached_by l (walk_back count (read_at img) first l).ends) where
-    follows_is : follows img count f ≡ x.ok && onward first
+  module _ (first : ℕ) where
+    pub edge_unshaped : in_shape count f ≡ false → None ≡ edge_at img count f first
     unfolding follows
-    follows_is =
-        rw shaped
-        (parts_end count (read_at img) f.first_seq first up (last_of f)
-        ∙ ap (λ (b : Bool). b && onward first) (sym (reached_ok count (read_at img) first (last_of f) l last x r)))
+    edge_unshaped h = rw h
 
-    pub follows_not : x.ok ≡ false → false ≡ follows img count f
-    follows_not h = sym (follows_is ∙ ap (λ (b : Bool). b && onward first) h)
+    module _ (up : f.first_seq ≤ first) (shaped : in_shape count f ≡ true) (l : Place) (last : l ≡ place_of (last_of f)) where
+      follows_is : follows img count f ≡ (found (last_of f) (walk count (read_at img) first (last_of f))).ok && onward first
+      unfolding follows
+      follows_is = rw shaped (parts_end count (read_at img) f.first_seq first up (last_of f))
 
-    pub edge_is : x.place ≡ edge_of img count f first
-    edge_is = reached_place count (read_at img) first (last_of f) l last x r
+      pub edge_none : None ≡ reached_by (walk_back count (read_at img) first l).ends → None ≡ edge_at img count f first
+      edge_none r = rw (follows_is, reached_none count (read_at img) first (last_of f) l last r)
 
-    pub follows_on : (y : Reached) → y ≡ reached_by x.place (walk_back count (read_at img) f.first_seq x.place).ends → x.ok ≡ true → y.ok ≡ follows img count f
-    follows_on y s h =
-        reached_ok count (read_at img) f.first_seq (edge_page first) x.place edge_is y s
-        ∙ sym (follows_is ∙ ap (λ (b : Bool). b && onward first) h)
+      module _ (x : Place) (r : Some x ≡ reached_by (walk_back count (read_at img) first l).ends) where
+        reached : ((found (last_of f) (walk count (read_at img) first (last_of f))).ok ≡ true) × (x ≡ edge_of img count f first)
+        reached = reached_place count (read_at img) first (last_of f) l last x r
+
+        pub edge_short : None ≡ reached_by (walk_back count (read_at img) f.first_seq x).ends → None ≡ edge_at img count f first
+        edge_short s = rw (follows_is, reached.0, reached_none count (read_at img) f.first_seq (edge_page first) x reached.1 s)
+
+        pub edge_found : (y : Place) → Some y ≡ reached_by (walk_back count (read_at img) f.first_seq x).ends → Some x ≡ edge_at img count f first
+        edge_found y s =
+            rw (follows_is, reached.0, (reached_place count (read_at img) f.first_seq (edge_page first) x reached.1 y s).0)
+            (ap Some reached.1)
+
+  -- and what it told
+  pub edge_says : (first : ℕ) (x : Place) → Some x ≡ edge_at img count f first → (follows img count f ≡ true) × (x ≡ edge_of img count f first)
+  edge_says first x = by (follows img count f)
+    where
+      by : (b : Bool) → Some x ≡ cond b (Some (edge_of img count f first)) None → (b ≡ true) × (x ≡ edge_of img count f first)
+      by true e = (refl, same_Some _ _ e)
+      by false e = cc
+
+  pub edge_not : (first : ℕ) → None ≡ edge_at img count f first → follows img count f ≡ false
+  edge_not first = by (follows img count f)
+    where
+      by : (b : Bool) → None ≡ cond b (Some (edge_of img count f first)) None → b ≡ false
+      by true e = cc
+      by false e = refl
 
   module _ (first : ℕ) (followed : follows img count f ≡ true) where
     -- nothing remains: all of them

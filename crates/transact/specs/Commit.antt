@@ -1,6 +1,6 @@
 -- Commit, by document 01, "Files and transactions"; DECISIONS 8, 13 and 14. Assumes nothing: these are definitions.
 use Rattle.state.specs.Refusals.{Done, fine}
-use Rattle.std.specs.Prelude.{◌+◌, cond, not, ◌&&◌, List, [], map, eqb, length, set, Option, Some, None}
+use Rattle.std.specs.Prelude.{ℕ, ◌+◌, cond, not, ◌&&◌, List, [], map, eqb, length, set, Option, Some, None}
 use Rattle.page.specs.Store.{Store}
 use Rattle.metalog.specs.declared.Entry.{Entry}
 use Rattle.metalog.specs.declared.Files.{Files}

@@ -1,6 +1,6 @@
 -- For private functions: a walk back that ends at a page, a record that truncate follows, and the page where the walk to the new first_seq
 -- ends. Assumes nothing: these are definitions.
-use Rattle.std.specs.Prelude.{ℕ, ◌≡◌, Bool, true, ◌&&◌, List}
+use Rattle.std.specs.Prelude.{ℕ, ◌≡◌, Bool, true, cond, ◌&&◌, List, Option, Some, None}
 use Rattle.chain.specs.declared.Place.{Place}
 use Rattle.chain.specs.Files.{last_of}
 use Rattle.chain.specs.Steps.{read_at, walk}
@@ -17,3 +17,7 @@ follows img count f = in_shape count f && (found (last_of f) (walk count (read_a
 
 abbrev pub edge_of : List ℕ → ℕ → FileRecord → ℕ → Place
 edge_of img count f first = place_of (found (last_of f) (walk count (read_at img) first (last_of f))).page
+
+-- the same as the code tells it: none where a call may not follow the record, or its walk ends at no page
+abbrev pub edge_at : List ℕ → ℕ → FileRecord → ℕ → Option Place
+edge_at img count f first = cond (follows img count f) (Some (edge_of img count f first)) None

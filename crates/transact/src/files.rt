@@ -1,77 +1,50 @@
-// What calls make of a file's record, and what they hand back.
+// What calls make of a file's record.
 ghost use Rattle.std.specs.Prelude.{◌≡◌, ◌<◌};
-ghost use Rattle.transact.specs.Truncate.{dirtied, new_first, emptied, cut};
-ghost use Rattle.transact.specs.Handed.{refused, changed};
+ghost use Rattle.state.specs.Values.{with_file, opened};
+ghost use Rattle.transact.specs.Truncate.{new_first, emptied, cut};
 
-use state::types::{Done, FileRecord, Out, Refusal, State, Table};
-
-// The record with its dirty mark set.
-pub fn dirty(f: FileRecord) -> FileRecord
-    ensures { result ≡ dirtied f }
-{
-    let mut g = f;
-    g.dirty = true;
-    g
-}
+use state::types::{FileRecord, State, Table};
 
 // first_seq advanced by the smaller of bytes and length.
-pub fn new_first(f: FileRecord, bytes: usize) -> u32
-    ensures { result ≡ new_first f bytes }
+pub fn new_first(f: &FileRecord, bytes: usize) -> u32
+    ensures { result ≡ new_first f.now bytes }
 {
-    if f.last_seq <= f.first_seq {
-        return f.first_seq;
-    }
-    let length = f.last_seq - f.first_seq;
-    if (length as usize) <= bytes {
-        return f.last_seq;
-    }
-    f.first_seq + bytes as u32
+    let length = f.last_seq.saturating_sub(f.first_seq);
+    f.first_seq + bytes.min(length as usize) as u32
 }
 
 // The record of a file of which nothing remains, dirty.
+#[tactic(auto, unfolding(crate::specs::Truncate::emptied, state::specs::Values::empty_record))]
 pub fn emptied() -> FileRecord
     ensures { result ≡ emptied }
 {
-    let mut g = state::values::empty_record();
-    g.dirty = true;
-    g
+    FileRecord {
+        dirty: true,
+        ..state::values::empty_record()
+    }
 }
 
 // The record with that first_seq, dirty; where nothing remains it is empty.
-pub fn cut(f: FileRecord, first: u32) -> FileRecord
-    ensures { result ≡ cut f first }
+#[tactic(auto, unfolding(crate::specs::Truncate::cut, crate::specs::Truncate::advanced))]
+pub fn cut(f: &FileRecord, first: u32) -> FileRecord
+    ensures { result ≡ cut f.now first }
 {
     if first == f.last_seq {
         return emptied();
     }
-    let mut g = f;
-    g.dirty = true;
-    g.first_seq = first;
-    g
-}
-
-// A refusal: nothing has changed.
-pub fn refuse(table: Table, state: State, why: Refusal) -> Out
-    ensures { result ≡ refused table state why }
-{
-    Out {
-        answer: Done::Refused(why),
-        table,
-        state,
+    FileRecord {
+        dirty: true,
+        first_seq: first,
+        ..*f
     }
 }
 
 // A change of one file, which opens a transaction.
-pub fn change(table: Table, state: State, i: usize, f: FileRecord) -> Out
+#[tactic(auto, unfolding(state::specs::Values::with_file))]
+pub fn change(table: &mut Table, state: &mut State, i: usize, f: FileRecord)
     requires { i < 8 }
-    ensures { result ≡ changed table state i f }
+    ensures { (table.new ≡ with_file table.old i f) × (state.new ≡ opened state.old) }
 {
-    let mut t = table;
-    t.files[i] = f;
-    let s = state::values::open_transaction(state);
-    Out {
-        answer: Done::Done,
-        table: t,
-        state: s,
-    }
+    table.files[i] = f;
+    *state = state::values::open_transaction(*state);
 }

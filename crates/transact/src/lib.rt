@@ -1,10 +1,10 @@
-// Transactions: truncate, rename, flags, commit. Each call is total, whatever image, map, table and state it is lent or handed.
+// Transactions: truncate, rename, flags, commit. Each call is total, whatever image, map, table and state it is lent.
 #![tactic(auto)]
 
+mod batch;
 pub mod commit;
 mod files;
 pub mod flags;
 pub mod rename;
-mod rows;
 pub mod truncate;
 mod walk;

@@ -3,42 +3,36 @@ ghost use Rattle.std.specs.Prelude.{◌≡◌, ◌<◌};
 ghost use Rattle.state.specs.World.{before, yields, promised};
 ghost use Rattle.transact.specs.Rename.{swapped, rename};
 
-use crate::files;
-use state::types::{Done, Out, Refusal, State, Table};
+use state::types::{Refusal, State, Table};
 
 // Both are marked dirty, also where they are the same.
-fn swap(table: Table, i: usize, j: usize) -> Table
+fn swap(table: &mut Table, i: usize, j: usize)
     requires { (i < 8) × (j < 8) }
-    ensures { result ≡ swapped table i j }
+    ensures { table.new ≡ swapped table.old i j }
 {
-    let mut t = table;
-    let a = t.files[i];
-    let b = t.files[j];
-    let from = files::dirty(a);
-    let to = files::dirty(b);
-    t.files[i] = to;
-    t.files[j] = from;
-    t
+    table.files.swap(i, j);
+    table.files[i].dirty = true;
+    table.files[j].dirty = true;
 }
 
 // Swaps two files, also one with itself, and marks both dirty.
-pub fn rename(image: &[u8], map: &[u8], table: Table, state: State, from: u8, to: u8) -> Out
-    ensures { yields result image.now map.now
-        ≡ promised (λ w. rename w from to) (before image.now map.now table state) }
+#[tactic(auto, unfolding(crate::specs::Rename::rename), using(state::proofs::Laws::checks_pass))]
+pub fn rename(
+    image: &[u8],
+    map: &[u8],
+    table: &mut Table,
+    state: &mut State,
+    from: u8,
+    to: u8,
+) -> Result<(), Refusal>
+    ensures { yields result image.now map.now table.new state.new
+        ≡ promised (λ w. rename w from to) (before image.now map.now table.old state.old) }
 {
-    let writer = state.writer;
-    let seen = state::checks::check(image.len(), map.len(), state, writer.active, from);
-    if let Done::Refused(why) = seen {
-        return files::refuse(table, state, why);
-    }
+    state::checks::check(image.len(), map.len(), state, state.writer.active, from)?;
     if 7 < to {
-        return files::refuse(table, state, Refusal::BadFile);
+        return Err(Refusal::BadFile);
     }
-    let t = swap(table, from as usize, to as usize);
-    let s = state::values::open_transaction(state);
-    Out {
-        answer: Done::Done,
-        table: t,
-        state: s,
-    }
+    swap(table, usize::from(from), usize::from(to));
+    *state = state::values::open_transaction(*state);
+    Ok(())
 }

@@ -4,44 +4,36 @@ ghost use Rattle.state.specs.World.{before, yields, promised};
 ghost use Rattle.transact.specs.Truncate.{truncate};
 
 use crate::{files, walk};
-use state::types::{Done, Out, Refusal, State, Table};
+use state::types::{Refusal, State, Table};
 
 // Advances first_seq by the smaller of bytes and length. The whole walk is checked before anything changes.
+#[tactic(auto, unfolding(crate::specs::Truncate::truncate, crate::specs::Truncate::truncate_in), using(state::proofs::Laws::checks_pass))]
 pub fn truncate(
     image: &[u8],
     map: &mut [u8],
-    table: Table,
-    state: State,
+    table: &mut Table,
+    state: &mut State,
     file: u8,
     bytes: usize,
-) -> Out
-    ensures { yields result image.now map.new
-        ≡ promised (λ w. truncate w file bytes) (before image.now map.old table state) }
+) -> Result<(), Refusal>
+    ensures { yields result image.now map.new table.new state.new
+        ≡ promised (λ w. truncate w file bytes) (before image.now map.old table.old state.old) }
 {
-    let writer = state.writer;
-    let seen = state::checks::check(image.len(), map.len(), state, writer.active, file);
-    if let Done::Refused(why) = seen {
-        return files::refuse(table, state, why);
-    }
+    state::checks::check(image.len(), map.len(), state, state.writer.active, file)?;
     if bytes == 0 {
-        return Out {
-            answer: Done::Done,
-            table,
-            state,
-        };
+        return Ok(());
     }
-    let i = file as usize;
-    let f = table.files[i];
-    if f.last_page == 65535 {
-        return files::change(table, state, i, files::emptied());
+    let i = usize::from(file);
+    let f = &table.files[i];
+    if f.is_empty() {
+        files::change(table, state, i, files::emptied());
+        return Ok(());
     }
-    let count = state.page_count as usize;
+    let count = usize::from(state.page_count);
     let first = files::new_first(f, bytes);
-    let edge = walk::edge_of(image, count, f, first);
-    if !edge.ok {
-        return files::refuse(table, state, Refusal::Damaged);
-    }
-    let place = edge.place;
-    walk::hold_unreached(image, map, count, f, first, place);
-    files::change(table, state, i, files::cut(f, first))
+    let edge = walk::edge_of(image, count, f, first).ok_or(Refusal::Damaged)?;
+    walk::hold_unreached(image, map, count, f, first, edge);
+    let shorter = files::cut(f, first);
+    files::change(table, state, i, shorter);
+    Ok(())
 }

@@ -1,7 +1,7 @@
 -- A discard's walk, step by step. Assumes nothing.
-use Prim.Native.Nat.{ℕ, zero, suc, ◌-◌, ◌≤◌, ◌<◌}
+use Prim.Native.Nat.{ℕ, zero, suc, ◌+◌, ◌-◌, ◌≤◌, ◌<◌}
 use mathlib.Core.Path.{◌≡◌, refl, sym, ap, ◌∙◌}
-use mathlib.Core.Bool.{Bool, true, false}
+use mathlib.Core.Bool.{true, false}
 use mathlib.Core.List.{List, [], ◌∷◌}
 use native.Mathlib.Numerals.{sub-one}
 use native.Mathlib.Omega.{arith}
@@ -9,9 +9,8 @@ use lib.ListN.{set}
 use Rattle.page.specs.Page.{Read}
 use Rattle.map.specs.Map.{free}
 use Rattle.chain.specs.declared.PagePointer.{PagePointer}
-use Rattle.chain.specs.declared.Kind.{Kind}
-use Rattle.chain.specs.declared.Kind.TheVariants.{Stays, Reaches, Breaks}
-use Rattle.chain.specs.declared.BackStep.{BackStep}
+use Rattle.chain.specs.declared.Step.{Step}
+use Rattle.chain.specs.declared.Step.TheVariants.{Stays, Reaches, Breaks}
 use Rattle.chain.specs.declared.Place.{Place}
 use Rattle.chain.specs.Steps.{back_rule, Stepped, stays, reaches, breaks, step}
 use Rattle.chain.specs.Back.{place_of, wide, told_back}
@@ -67,18 +66,35 @@ module _ (count : ℕ) (read : ℕ → Read) where
       → unbroken (back_from count read (n - 1) (wide x)) ≡ unbroken (back_from count read n p)
   unbroken_step n p x h r = ap unbroken (back_wide (n - 1) r.0 x r.2) ∙ unbroken_next n p r.0 h r.1
 
-  -- an unbroken walk's step reaches a page
-  pub unbroken_reaches : (n : ℕ) (p : Place) (x : BackStep) → 1 < n → x ≡ told_back p (step (back_rule count 0) read (wide p))
-      → unbroken (back_from count read n (wide p)) ≡ true → Reached (step (back_rule count 0) read (wide p)) x.place
-  unbroken_reaches n p x h e u = by x.kind (backs_to p x _ _ e refl)
-    where
-      not : back_from count read n (wide p) ≡ lost → ⊥
-      not g = let z : ◌≡◌ {A = Bool} false true = sym (ap unbroken g) ∙ u in let y : ◌≡◌ {A = ℕ} 0 1 = cc in omega arith
+  -- ---- the code's loop, which counts i from 1 up to n: n + 1 - i pages are left, with the one at hand
 
-      by : (k : Kind) → BacksTo (step (back_rule count 0) read (wide p)) k x.place → Reached (step (back_rule count 0) read (wide p)) x.place
-      by Reaches g = g
-      by Stays g = absurd (not (back_stays n (wide p) h g))
-      by Breaks g = absurd (not (back_breaks n (wide p) h g))
+  pub unbroken_first : (n : ℕ) (p : PagePointer) (x : Place) → x ≡ place_of p
+      → unbroken (back_from count read (n + 1 - 1) (wide x)) ≡ unbroken (back_from count read n p)
+  unbroken_first n p x e = let k : n + 1 - 1 ≡ n = omega arith in rw k (ap unbroken (back_wide n p x e))
+
+  left_next : (n i : ℕ) → i < n → n + 1 - (i + 1) ≡ n + 1 - i - 1
+  left_next n i h = omega arith
+
+  -- one more page
+  pub unbroken_more : (n i : ℕ) (x y : Place) → i < n → Reaches y ≡ told_back (step (back_rule count 0) read (wide x))
+      → unbroken (back_from count read (n + 1 - (i + 1)) (wide y)) ≡ unbroken (back_from count read (n + 1 - i) (wide x))
+  unbroken_more n i x y h e = rw (left_next n i h) (unbroken_step (n + 1 - i) (wide x) y (omega arith) (backs_to _ _ e))
+
+  -- a step that reaches no page breaks the walk
+  pub unbroken_stuck : (n i : ℕ) (x : Place) (t : Step Place) → i < n → t ≡ told_back (step (back_rule count 0) read (wide x))
+      → ((q : Place) → t ≡ Reaches q → ⊥) → unbroken (back_from count read (n + 1 - i) (wide x)) ≡ false
+  unbroken_stuck n i x t h e never = by t refl (backs_to t _ e)
+    where
+      more : 1 < n + 1 - i
+      more = omega arith
+
+      by : (y : Step Place) → t ≡ y → BacksTo (step (back_rule count 0) read (wide x)) y → unbroken (back_from count read (n + 1 - i) (wide x)) ≡ false
+      by (Reaches q) f g = absurd (never q f)
+      by Stays f g = ap unbroken (back_stays (n + 1 - i) (wide x) more g)
+      by Breaks f g = ap unbroken (back_breaks (n + 1 - i) (wide x) more g)
+
+  pub unbroken_last : (n i : ℕ) (x : Place) → n ≤ i → unbroken (back_from count read (n + 1 - i) (wide x)) ≡ true
+  unbroken_last n i x h = back_few (n + 1 - i) (wide x) (omega arith)
 
   -- ---- pages freed, the first of them already
   abbrev pub freed_after : List ℕ → Back → List ℕ
@@ -116,11 +132,25 @@ module _ (count : ℕ) (read : ℕ → Read) where
       ∙ beside_rest m p.page_id (back_from count read (n - 1) q) k
       ∙ sym (ap (freed_after m) (back_reaches n p q h r.1))
 
-  pub freed_last : (n : ℕ) (m : List ℕ) (p : PagePointer) → 1 ≤ n → n ≤ 1 → freed_after m (back_from count read n p) ≡ m
+  freed_one : (n : ℕ) (m : List ℕ) (p : PagePointer) → n ≡ 1 → freed_after m (back_from count read n p) ≡ m
   unfolding back_from
-  freed_last zero m p h k = absurd (omega arith)
-  freed_last (suc zero) m p h k = refl
-  freed_last (suc (suc n)) m p h k = absurd (omega arith)
+  freed_one n m p e = rw e
+
+  -- ---- the same loop
+
+  pub freed_start : (n : ℕ) (m : List ℕ) (p : PagePointer) (x : Place) → x ≡ place_of p → 0 < n → unbroken (back_from count read n p) ≡ true
+      → freed_after (set m x.page_id free) (back_from count read (n + 1 - 1) (wide x)) ≡ freed_by m (back_from count read n p)
+  freed_start n m p x e h u =
+      let k : n + 1 - 1 ≡ n = omega arith in
+      rw k (ap (λ (b : Back). freed_after (set m x.page_id free) b) (back_wide n p x e) ∙ rw e (freed_first n m p h u))
+
+  pub freed_more : (n i : ℕ) (m : List ℕ) (x y : Place) → i < n → Reaches y ≡ told_back (step (back_rule count 0) read (wide x))
+      → unbroken (back_from count read (n + 1 - i) (wide x)) ≡ true
+      → freed_after (set m y.page_id free) (back_from count read (n + 1 - (i + 1)) (wide y)) ≡ freed_after m (back_from count read (n + 1 - i) (wide x))
+  freed_more n i m x y h e u = rw (left_next n i h) (freed_next (n + 1 - i) m (wide x) y (omega arith) (backs_to _ _ e) u)
+
+  pub freed_end : (n i : ℕ) (m : List ℕ) (x : Place) → i ≡ n → freed_after m (back_from count read (n + 1 - i) (wide x)) ≡ m
+  freed_end n i m x e = freed_one (n + 1 - i) m (wide x) (omega arith)
 
   pub freed_none : (n : ℕ) (m : List ℕ) (p : PagePointer) → n ≡ 0 → m ≡ freed_by m (back_from count read n p)
   unfolding back_from

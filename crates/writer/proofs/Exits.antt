@@ -5,12 +5,11 @@ use mathlib.Core.Path.{◌≡◌, refl, sym, ap, ◌∙◌}
 use mathlib.Core.Bool.{Bool, true, false, cond, not, ◌&&◌}
 use mathlib.Core.List.{List, []}
 use native.Mathlib.Omega.{arith}
-use borrow.Author.Tests.{ltb-false, eqb-true, eq-eqb, ne_eqb, not-false}
+use borrow.Author.Tests.{ltb-false, eqb-true, ne_eqb, not-false}
 use lib.Dec.{eqb, ltb}
 use lib.ListN.{length, take}
 use Rattle.seq.specs.Seq.{limit}
 use Rattle.runs.proofs.Laws.{cond_by}
-use Rattle.seq.specs.Ids.{none}
 use Rattle.page.specs.declared.DataHeader.{DataHeader}
 use Rattle.page.specs.Store.{ran, data_stores}
 use Rattle.map.specs.Map.{free, held, free_count}
@@ -18,18 +17,17 @@ use Rattle.chain.specs.Steps.{read_at}
 use Rattle.state.specs.declared.types.State.{State}
 use Rattle.state.specs.declared.types.Writer.{Writer}
 use Rattle.state.specs.declared.types.Refusal.{Refusal}
-use Rattle.state.specs.declared.types.Refusal.TheVariants.{Damaged, NoRoom, SeqEnd, NoSearch}
-use Rattle.state.specs.declared.types.Out.{Out}
+use Rattle.state.specs.declared.types.Refusal.TheVariants.{NoRoom, SeqEnd, NoSearch}
 use Rattle.state.specs.Refusals.{on_done, Done, fine}
 use Rattle.state.specs.declared.types.Table.{Table}
 use Rattle.state.specs.Values.{file_at, with_file, no_writer, opened, with_writer}
 use Rattle.state.specs.Checks.{checks}
-use Rattle.state.specs.World.{World, Outcome, ended, kept, refuse, checked, before, after}
-use Rattle.state.proofs.Laws.{MountedState, writer_says}
-use Rattle.writer.specs.Staging.{is_staged, previous_of, staged_header, flush_stores, record_ended, space, pages_for, too_few}
+use Rattle.state.specs.World.{World, Outcome, ended, kept, refuse, checked, before}
+use Rattle.state.proofs.Laws.{MountedState, Passed, writer_says}
+use Rattle.writer.specs.Staging.{previous_of, staged_header, flush_stores, record_ended, space, pages_for, too_few}
 use Rattle.writer.specs.Write.{write_from, begun, written_as, write_in, write, record_end}
-use Rattle.writer.specs.Finish.{marked, grown, finished, shut, finish, Back, lost, pages, back_from, discarded_by, discard}
-use Rattle.writer.specs.Inner.{out_of, Sound, may_write, unbroken, freed_by}
+use Rattle.writer.specs.Finish.{marked, grown, finished, Back, lost, pages, back_from, discarded_by, discard}
+use Rattle.writer.specs.Inner.{Ends, Sound, may_write, unbroken, freed_by}
 use Rattle.writer.proofs.Pages.{flush_by}
 
 -- ---- a write
@@ -102,28 +100,9 @@ module _ (w : World) (busy : Bool) (file : ℕ) (rest : Outcome Done) (d : Done)
   pub checked_passed : d ≡ fine → checked w busy file (refuse w) rest ≡ rest
   checked_passed h = rw (← e, h)
 
--- a world with another answer, table and state
-pub answered : (w : World) (r : Out) (a : Done) → r ≡ out_of a w.table w.state → after r w.image w.map ≡ record { answer = a; world = w }
-answered w r a e = rw e
-
 module _ (w : World) (d : Done) (e : d ≡ checks (length w.image) (length w.map) w.state false 0) (f : d ≡ fine) where
   abbrev x : Writer
   x = w.state.writer
-
-  -- ---- finish
-
-  finish_in : finish w ≡ cond w.state.writer.active (cond (is_staged w.state.writer) (finished w w.state.writer) (shut w)) (refuse w NoSearch)
-  unfolding finish
-  finish_in = checked_passed w false 0 _ d e f
-
-  pub finish_idle : w.state.writer.active ≡ false → finish w ≡ refuse w NoSearch
-  finish_idle a = finish_in ∙ cond_off _ _ _ a
-
-  pub finish_shut : w.state.writer.active ≡ true → w.state.writer.page ≡ none → finish w ≡ shut w
-  finish_shut a p = finish_in ∙ cond_on _ _ _ a ∙ cond_off _ _ _ (ap not (eq-eqb w.state.writer.page none p))
-
-  pub finish_staged : w.state.writer.active ≡ true → (w.state.writer.page ≡ none → ⊥) → finish w ≡ finished w w.state.writer
-  finish_staged a n = finish_in ∙ cond_on _ _ _ a ∙ cond_on _ _ _ (ap not (ne_eqb w.state.writer.page none n))
 
   -- ---- discard
 
@@ -133,16 +112,6 @@ module _ (w : World) (d : Done) (e : d ≡ checks (length w.image) (length w.map
   discard_in : discard w ≡ cond w.state.writer.active (discarded_by w w.state.writer walked) (refuse w NoSearch)
   unfolding discard
   discard_in = checked_passed w false 0 _ d e f
-
-  pub discard_idle : w.state.writer.active ≡ false → discard w ≡ refuse w NoSearch
-  discard_idle a = discard_in ∙ cond_off _ _ _ a
-
-  pub discard_broken : w.state.writer.active ≡ true → unbroken walked ≡ false → discard w ≡ refuse w Damaged
-  discard_broken a u = discard_in ∙ cond_on _ _ _ a ∙ by walked u
-    where
-      by : (b : Back) → unbroken b ≡ false → discarded_by w w.state.writer b ≡ refuse w Damaged
-      by lost u = refl
-      by (pages l) u = let z : ◌≡◌ {A = ℕ} 0 1 = cc in absurd (omega arith)
 
   pub discard_done : w.state.writer.active ≡ true → unbroken walked ≡ true
       → discard w ≡ record { answer = fine; stores = []; map = marked (freed_by w.map walked) w.state.writer.page free; table = w.table; state = with_writer w.state no_writer }
@@ -162,21 +131,12 @@ module _ (w : World) (d : Done) (e : d ≡ checks (length w.image) (length w.map
   unfolding record_end
   end_in_lem = checked_passed w false 0 _ d e f
 
-  pub end_idle : w.state.writer.active ≡ false → record_end w ≡ refuse w NoSearch
-  end_idle a = end_in_lem ∙ cond_off _ _ _ a
-
-  pub end_done : w.state.writer.active ≡ true → record_end w ≡ ends
-  end_done a = end_in_lem ∙ cond_on _ _ _ a
-
   -- ---- a write
 
   module _ (l : List ℕ) where
     write_in_lem : write w l ≡ cond (eqb (length l) 0) (kept w fine) (write_in w l)
     unfolding write
     write_in_lem = checked_passed w false 0 _ d e f
-
-    pub write_empty : length l ≡ 0 → write w l ≡ kept w fine
-    write_empty h = write_in_lem ∙ cond_on _ _ _ (eq-eqb (length l) 0 h)
 
     module _ (some : length l ≡ 0 → ⊥) (may : Done) (g : may ≡ may_write w.map w.state (length l)) where
       write_may : write w l ≡ on_done may (refuse w) (written_as w (write_from w.state.page_count (length l) l (begun w)))
@@ -190,17 +150,18 @@ module _ (w : World) (d : Done) (e : d ≡ checks (length w.image) (length w.map
 
 -- ---- a page finished
 
-pub finished_is : (w : World) (img m s : List ℕ) (h : DataHeader) (t : Table) (st : State)
-    → h ≡ staged_header w.state.writer → s ≡ w.state.writer.staged
-    → img ≡ ran w.image (data_stores w.state.writer.page h (take h.length s))
+-- an open writer that passed the checks
+pub passed_ends : {image map file : ℕ} {busy : Bool} (s : State) → Passed image map s busy file → s.writer.active ≡ true → Ends s.writer
+passed_ends s p on = let o = writer_says s.page_count s.writer p.mounted.writer on in record { file = o.file; end = omega (arith, o.end) }
+
+pub finished_is : (w : World) (img m : List ℕ) (h : DataHeader) (t : Table) (st : State)
+    → h ≡ staged_header w.state.writer
+    → img ≡ ran w.image (data_stores w.state.writer.page h (take h.length w.state.writer.staged))
     → m ≡ marked w.map w.state.writer.copied held
     → t ≡ with_file w.table w.state.writer.file (grown (file_at w.table w.state.writer.file) w.state.writer)
     → st ≡ with_writer (opened w.state) no_writer
     → record { answer = fine; world = before img m t st } ≡ ended w (finished w w.state.writer)
 unfolding finished
-finished_is w img m s h t st eh es ei em et ex =
-    let x = w.state.writer in
-    let e : data_stores w.state.writer.page h (take h.length s) ≡ flush_stores w.state.writer =
-    ap (λ (l : List ℕ). data_stores w.state.writer.page h (take h.length l)) es ∙ flush_by w.state.writer w.state.writer.staged h eh in
-    let i : img ≡ ran w.image (flush_stores w.state.writer) = ei ∙ ap (ran w.image) e in
+finished_is w img m h t st eh ei em et ex =
+    let i : img ≡ ran w.image (flush_stores w.state.writer) = ei ∙ ap (ran w.image) (flush_by w.state.writer h eh) in
     rw (i, em, et, ex)

@@ -1,21 +1,21 @@
 -- The code's next page, by what its parts leave. Assumes nothing.
 use Rattle.std.specs.Prelude.{Option, Some, None}
 use Prim.Native.Nat.{ℕ, ◌<◌}
-use mathlib.Core.Path.{◌≡◌, refl, sym, ap, ◌∙◌}
-use mathlib.Core.Bool.{Bool, true, false, cond}
+use mathlib.Core.Path.{◌≡◌, sym, ap, ◌∙◌}
 use mathlib.Core.List.{List}
 use native.Mathlib.Omega.{arith}
-use borrow.Author.Tests.{eq-eqb, ne_eqb}
+use borrow.Author.Tests.{ne_eqb}
 use lib.ListN.{take}
 use Rattle.page.specs.declared.DataHeader.{DataHeader}
 use Rattle.page.specs.Store.{ran, data_stores}
 use Rattle.map.specs.Map.{alloc_of, used_by, beyond, allocated, leaves as gives}
-use Rattle.map.proofs.Laws.{allocated_answer, allocated_left, alloc_found, beyond_inside}
+use Rattle.map.proofs.Laws.{allocated_answer, allocated_left, alloc_found}
 use Rattle.state.specs.declared.types.Writer.{Writer}
-use Rattle.writer.specs.declared.write.Pen.{Pen}
-use Rattle.writer.specs.Staging.{is_staged, staged_links, staged_header, flush_stores, flushed, on_page, space}
+use Rattle.state.specs.declared.types.State.{State}
+use Rattle.state.specs.Values.{with_cursor, with_writer}
+use Rattle.writer.specs.Staging.{staged_links, staged_header, flush_stores, on_page, space}
 use Rattle.writer.specs.Write.{Writing, staged, next_page, ready}
-use Rattle.writer.specs.Inner.{with_staged, stores_of, unstaged, makes, begins, leaves}
+use Rattle.writer.specs.Inner.{stores_of, unstaged, begins, wrote, writes}
 use Rattle.writer.proofs.Sounds.{flushes, next_is}
 
 -- ---- an allocation, as the code has it
@@ -30,52 +30,37 @@ pub alloc_small : (m m' : List ℕ) (count cursor i : ℕ) (a : Option ℕ) → 
 alloc_small m m' count cursor i a e p h =
     (alloc_found m count cursor (omega arith) i ((alloc_told m m' count cursor a e).0 ∙ p)).inside
 
--- one beyond it fits too
-pub beyond_small : (count i r : ℕ) → r ≡ beyond count i → 0 < count → r < count
-beyond_small count i r e h = rw e (beyond_inside count i h)
-
 -- ---- a flush
 
 -- the stores of a page by its header
-pub flush_by : (w : Writer) (s : List ℕ) (h : DataHeader) → h ≡ staged_header w → data_stores w.page h (take h.length s) ≡ flush_stores (with_staged w s)
+pub flush_by : (w : Writer) (h : DataHeader) → h ≡ staged_header w → data_stores w.page h (take h.length w.staged) ≡ flush_stores w
 unfolding staged_header staged_links
-flush_by w s h e = rw e
-
-pub unstaged_staged : (w : Writer) (s : List ℕ) → unstaged (with_staged w s) ≡ with_staged (unstaged w) s
-unfolding flushed staged_header staged_links
-unstaged_staged w s = by (is_staged w)
-  where
-    by : (b : Bool) → cond b (flushed (with_staged w s)) (with_staged w s) ≡ with_staged (cond b (flushed w) w) s
-    by true = refl
-    by false = refl
+flush_by w h e = rw e
 
 -- ---- the next page
 
-module _ (img m s : List ℕ) (count : ℕ) (x : Pen) (img' m' : List ℕ) (w : Writer) (a : Option ℕ)
-    (ei : img' ≡ ran img (stores_of (with_staged x.writer s))) (ew : w ≡ unstaged x.writer)
-    (ea : gives a m' ≡ allocated m count x.cursor) where
-  from : makes img (next_page count (begins m s x)) ≡ makes img (staged count (flushes (begins m s x)) a)
-  from = ap (makes img) (next_is count (begins m s x)) ∙ ap (λ (z : Option ℕ). makes img (staged count (flushes (begins m s x)) z)) (alloc_told m m' count x.cursor a ea).0
+module _ (img m : List ℕ) (s : State) (img' m' : List ℕ) (v : Writer) (a : Option ℕ)
+    (ei : img' ≡ ran img (stores_of s.writer)) (ev : v ≡ unstaged s.writer)
+    (ea : gives a m' ≡ allocated m s.page_count s.cursor) where
+  from : wrote img s (next_page s.page_count (begins m s)) ≡ wrote img s (staged s.page_count (flushes (begins m s)) a)
+  from =
+      ap (wrote img s) (next_is s.page_count (begins m s))
+      ∙ ap (λ (z : Option ℕ). wrote img s (staged s.page_count (flushes (begins m s)) z)) (alloc_told m m' s.page_count s.cursor a ea).0
 
-  same : unstaged (with_staged x.writer s) ≡ with_staged w s
-  same = unstaged_staged x.writer s ∙ ap (λ (z : Writer). with_staged z s) (sym ew)
-
-  pub next_page_lem : (i : ℕ) → a ≡ Some i → leaves img' m' s (record { cursor = beyond count i; writer = on_page w i }) ≡ makes img (next_page count (begins m s x))
+  pub next_page_lem : (i : ℕ) → a ≡ Some i
+      → writes img' m' (with_writer (with_cursor s (beyond s.page_count i)) (on_page v i)) ≡ wrote img s (next_page s.page_count (begins m s))
   unfolding on_page
   next_page_lem i e =
-      let em : m' ≡ used_by m (Some i) = (alloc_told m m' count x.cursor a ea).1 ∙ ap (used_by m) e in
-      sym (from ∙ rw (e, same, em, ei))
+      let em : m' ≡ used_by m (Some i) = (alloc_told m m' s.page_count s.cursor a ea).1 ∙ ap (used_by m) e in
+      sym (from ∙ rw (e, ev, em, ei))
 
-  pub next_full : a ≡ None → leaves img' m' s (record { cursor = x.cursor; writer = w }) ≡ makes img (next_page count (begins m s x))
+  pub next_full : a ≡ None → writes img' m' (with_writer s v) ≡ wrote img s (next_page s.page_count (begins m s))
+  unfolding with_writer with_cursor
   next_full e =
-      let em : m' ≡ used_by m None = (alloc_told m m' count x.cursor a ea).1 ∙ ap (used_by m) e in
-      sym (from ∙ rw (e, same, em, ei))
+      let em : m' ≡ used_by m None = (alloc_told m m' s.page_count s.cursor a ea).1 ∙ ap (used_by m) e in
+      sym (from ∙ rw (e, ev, em, ei))
 
 -- ---- whether one is needed
-
-pub ready_next : (count : ℕ) (x : Writing) → space x.writer ≡ 0 → ready count x ≡ next_page count x
-unfolding ready
-ready_next count x e = rw (eq-eqb (space x.writer) 0 e)
 
 pub ready_here : (count : ℕ) (x : Writing) → (space x.writer ≡ 0 → ⊥) → ready count x ≡ x
 unfolding ready

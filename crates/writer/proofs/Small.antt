@@ -1,21 +1,13 @@
 -- Facts that the small functions' answers cite. Assumes nothing.
-use Prim.Native.Nat.{ℕ, ◌+◌, ◌*◌, min, ◌≤◌, ◌<◌}
+use Prim.Native.Nat.{ℕ, ◌+◌, ◌*◌, min, ◌≤◌}
 use mathlib.Core.Path.{◌≡◌, sym, ◌∙◌}
 use mathlib.Core.List.{List}
 use native.Mathlib.Omega.{arith}
-use borrow.Author.Tests.{lt-ltb, le-ltb, le-leb, lt-leb}
-use lib.Dec.{leb, ltb}
 use lib.ListN.{length, drop, drop_of_length-le}
 use Rattle.runs.specs.Runs.{part, part_of}
 use Rattle.runs.proofs.Laws.{part_of_in}
 use Rattle.page.specs.Page.{page_of}
 use Rattle.page.proofs.Laws.{split, page_length}
-
--- at most k is less than k + 1
-pub leb_next : (a b : ℕ) → leb a b ≡ ltb a (b + 1)
-leb_next a b =
-    split a b (λ h. let k : a < b + 1 = omega arith in le-leb a b h ∙ sym (lt-ltb a (b + 1) k))
-    (λ h. let k : b + 1 ≤ a = omega arith in lt-leb a b h ∙ sym (le-ltb a (b + 1) k))
 
 -- what is dropped of no more than all
 pub drop_min : (k : ℕ) (l : List ℕ) → drop (min k (length l)) l ≡ drop k l

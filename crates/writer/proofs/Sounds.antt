@@ -18,7 +18,7 @@ use Rattle.map.proofs.Laws.{alloc_found, alloc_count, alloc_some, beyond_inside}
 use Rattle.state.specs.declared.types.Writer.{Writer}
 use Rattle.writer.specs.Staging.{is_staged, flush_stores, flushed, on_page, filled_by, space, pages_for}
 use Rattle.writer.specs.Write.{Writing, flush, staged, next_page, ready, put}
-use Rattle.writer.specs.Inner.{with_staged, stores_of, unstaged, Sound}
+use Rattle.writer.specs.Inner.{stores_of, unstaged, Sound}
 
 -- ---- room
 
@@ -33,11 +33,6 @@ space_some x n = rw (ne_eqb x.page none n)
 -- where there is room a page is staged
 pub space_on : (x : Writer) → 0 < space x → x.page ≡ none → ⊥
 space_on x h e = omega (arith, space_none x e)
-
--- the staged bytes are no matter
-pub space_staged : (x : Writer) (l : List ℕ) → space (with_staged x l) ≡ space x
-unfolding space
-space_staged x l = refl
 
 pub pages_none : (left len : ℕ) → len ≤ left → pages_for left len ≡ 0
 unfolding pages_for
@@ -64,25 +59,6 @@ pages_mono left k len h =
     (λ a. let b : left < len = omega arith in rw (lt-leb k left a, lt-leb len left b) (omega arith))
 
 -- ---- kept by each step
-
--- Sound says nothing of the staged bytes
-pub sound_staged : {count len at : ℕ} {m : List ℕ} (x : Writer) (l : List ℕ) → Sound count len m at x → Sound count len m at (with_staged x l)
-unfolding space
-sound_staged x l h =
-    record {
-      able = record { few = h.able.few; cursor = h.able.cursor; end = h.able.end; stored = h.able.stored; length = h.able.length };
-      end = h.end;
-      room = h.room;
-    }
-
-pub sound_unstaged : {count len at : ℕ} {m : List ℕ} (x : Writer) (l : List ℕ) → Sound count len m at (with_staged x l) → Sound count len m at x
-unfolding space
-sound_unstaged x l h =
-    record {
-      able = record { few = h.able.few; cursor = h.able.cursor; end = h.able.end; stored = h.able.stored; length = h.able.length };
-      end = h.end;
-      room = h.room;
-    }
 
 abbrev pub SoundAt : ℕ → ℕ → Writing → Type 0
 SoundAt count len x = Sound count len x.map x.cursor x.writer

@@ -13,12 +13,13 @@ use Rattle.page.proofs.Laws.{ran_append}
 use Rattle.map.specs.Map.{alloc_of}
 use Rattle.map.proofs.Turns.{take_min}
 use Rattle.state.specs.declared.types.Writer.{Writer}
-use Rattle.writer.specs.declared.write.Pen.{Pen}
+use Rattle.state.specs.declared.types.State.{State}
+use Rattle.state.specs.Values.{with_cursor, with_writer}
 use Rattle.writer.specs.Staging.{filled_by, space}
 use Rattle.writer.specs.Write.{Writing, staged, next_page, ready, put, write_from}
-use Rattle.writer.specs.Inner.{with_staged, stores_of, Made, makes, begins, leaves, Sound}
+use Rattle.writer.specs.Inner.{stores_of, Made, makes, begins, Wrote, wrote, writes, Sound}
 use Rattle.writer.proofs.Small.{drop_min}
-use Rattle.writer.proofs.Sounds.{space_some, space_on, space_staged, sound_staged, sound_unstaged, SoundAt, flushes, next_is, Readied, ready_readied, put_sound}
+use Rattle.writer.proofs.Sounds.{space_some, space_on, SoundAt, flushes, next_is, Readied, ready_readied, put_sound}
 
 -- ---- fuel: more than there are bytes changes nothing
 
@@ -106,6 +107,10 @@ resume img count k l y =
 
 -- ---- one turn
 
+-- what was made, with the rest of the state
+abbrev closes : State → Made → Wrote
+closes s z = writes z.image z.map (with_writer (with_cursor s z.cursor) z.writer)
+
 pub turned : (img : List ℕ) (count : ℕ) (l : List ℕ) (x : Writing) → SoundAt count (length l) x → 0 < length l
     → let y = ready count x in
     let s = space y.writer in
@@ -120,29 +125,24 @@ turned img count (b ∷ l) x h some =
     ap (makes img) (fuel count (length l) (length (drop s (b ∷ l))) (drop s (b ∷ l)) p (put_sound count (ready count x) (b ∷ l) r.sound r.space) f (omega arith))
     ∙ resume img count (length (drop s (b ∷ l))) (drop s (b ∷ l)) p
 
--- of the code's loop: from image, map, staged bytes and pen to the next, over the bytes l
-module _ (img m s : List ℕ) (x : Pen) (count : ℕ) (l : List ℕ) (img' m' : List ℕ) (r : Pen)
-    (sound : Sound count (length l) m x.cursor x.writer) (some : 0 < length l)
-    (er : leaves img' m' s r ≡ makes img (ready count (begins m s x))) where
-  begun : SoundAt count (length l) (begins m s x)
-  begun = sound_staged x.writer s sound
+-- of the code's loop: from image, map and state to the next, over the bytes l
+module _ (img m : List ℕ) (s : State) (l : List ℕ) (img' m' : List ℕ) (r : State)
+    (sound : Sound s.page_count (length l) m s.cursor s.writer) (some : 0 < length l)
+    (er : writes img' m' r ≡ wrote img s (ready s.page_count (begins m s))) where
+  readied : Readied s.page_count (length l) (ready s.page_count (begins m s))
+  readied = ready_readied s.page_count (length l) (begins m s) sound some
 
-  y : Writing
-  y = ready count (begins m s x)
-
-  readied : Readied count (length l) (ready count (begins m s x))
-  readied = ready_readied count (length l) (begins m s x) begun some
-
-  same_space : space r.writer ≡ space (ready count (begins m s x)).writer
-  same_space = sym (space_staged r.writer s) ∙ ap (λ (z : Made). space z.writer) er
+  same_space : space r.writer ≡ space (ready s.page_count (begins m s)).writer
+  unfolding with_writer with_cursor
+  same_space = ap (λ (z : Wrote). space z.state.writer) er
 
   -- there is room
   pub turn_room : 0 < space r.writer
   turn_room = rw same_space readied.space
 
-  pub turn_sound : Sound count (length l) m' r.cursor r.writer
-  turn_sound =
-      sound_unstaged r.writer s (subst (λ (z : Made). Sound count (length l) z.map z.cursor z.writer) (sym er) readied.sound)
+  pub turn_sound : Sound r.page_count (length l) m' r.cursor r.writer
+  unfolding with_writer with_cursor
+  turn_sound = subst (λ (z : Wrote). Sound z.state.page_count (length l) z.map z.state.cursor z.state.writer) (sym er) readied.sound
 
   -- what is put fits
   pub turn_fits : (n : ℕ) → n ≡ min (space r.writer) (length l) → r.writer.length + length (take n l) < 65536
@@ -150,10 +150,9 @@ module _ (img m s : List ℕ) (x : Pen) (count : ℕ) (l : List ℕ) (img' m' : 
       let k = space_some r.writer (space_on r.writer turn_room) in
       omega (arith, length-take n l, turn_sound.able.length)
 
-  module _ (v : Writer) (t : List ℕ) (n : ℕ) (en : n ≡ min (space r.writer) (length l))
-      (ev : with_staged v t ≡ filled_by (with_staged r.writer s) (take n l)) where
-    abbrev next : Pen
-    next = record { cursor = r.cursor; writer = v }
+  module _ (v : Writer) (n : ℕ) (en : n ≡ min (space r.writer) (length l)) (ev : v ≡ filled_by r.writer (take n l)) where
+    abbrev next : State
+    next = with_writer r v
 
     same_take : take n l ≡ take (space r.writer) l
     same_take = rw en (take_min (space r.writer) l)
@@ -161,20 +160,14 @@ module _ (img m s : List ℕ) (x : Pen) (count : ℕ) (l : List ℕ) (img' m' : 
     same_drop : drop n l ≡ drop (space r.writer) l
     same_drop = rw en (drop_min (space r.writer) l)
 
-    pub turn_after : Sound count (length (drop n l)) m' r.cursor v
-    turn_after =
-        let w = with_staged r.writer s in
-        let q : Writing = record { stores = []; map = m'; cursor = r.cursor; writer = with_staged r.writer s } in
-        let e = space_staged r.writer s in
-        let g : 0 < space (with_staged r.writer s) = rw e turn_room in
-        let h : SoundAt count (length (drop (space (with_staged r.writer s)) l)) (put q (take (space (with_staged r.writer s)) l)) =
-        put_sound count q l (sound_staged r.writer s turn_sound) g in
-        let k : Sound count (length (drop (space r.writer) l)) m' r.cursor (filled_by (with_staged r.writer s) (take (space r.writer) l)) =
-        rw e at h in
-        sound_unstaged v t (rw (ev, same_take, same_drop) k)
+    pub turn_after : Sound next.page_count (length (drop n l)) m' next.cursor next.writer
+    unfolding with_writer
+    turn_after = rw (ev, same_take, same_drop) (put_sound r.page_count (begins m' r) l turn_sound turn_room)
 
-    pub turn_made : makes img' (write_from count (length (drop n l)) (drop n l) (begins m' t next)) ≡ makes img (write_from count (length l) l (begins m s x))
+    pub turn_made : wrote img' next (write_from next.page_count (length (drop n l)) (drop n l) (begins m' next))
+        ≡ wrote img s (write_from s.page_count (length l) l (begins m s))
+    unfolding with_writer with_cursor
     turn_made =
-        ap (λ (w : Writer). makes img' (write_from count (length (drop n l)) (drop n l) (record { stores = []; map = m'; cursor = r.cursor; writer = w }))) ev
-        ∙ ap (λ (z : Made). makes z.image (write_from count (length (drop n l)) (drop n l) (put (again z) (take n l)))) er
-        ∙ (rw (same_take, same_drop, same_space) (sym (turned img count l (begins m s x) begun some)))
+        ap (λ (w : Writer). wrote img' (with_writer r w) (write_from r.page_count (length (drop n l)) (drop n l) (begins m' (with_writer r w)))) ev
+        ∙ ap (λ (z : Wrote). wrote z.image z.state (write_from z.state.page_count (length (drop n l)) (drop n l) (put (begins z.map z.state) (take n l)))) er
+        ∙ (rw (same_take, same_drop, same_space) (ap (closes s) (sym (turned img s.page_count l (begins m s) sound some))))

@@ -1,6 +1,6 @@
 -- The writer's small questions; DECISIONS 46. Assumes nothing: these are definitions.
 use Rattle.state.specs.declared.types.Refusal.{Refusal}
-use Rattle.std.specs.Prelude.{◌+◌, cond, Result, Ok, Err}
+use Rattle.std.specs.Prelude.{ℕ, ◌+◌, cond, Result, Ok, Err}
 use Rattle.state.specs.declared.types.Table.{Table}
 use Rattle.state.specs.declared.types.Writer.{Writer}
 use Rattle.state.specs.declared.types.State.{State}

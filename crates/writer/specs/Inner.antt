@@ -1,41 +1,22 @@
 -- What the inner functions take and leave, in the words of the calls' definitions. Assumes nothing: these are definitions.
 use Rattle.state.specs.Refusals.{Done, fine}
-use Rattle.std.specs.Prelude.{ℕ, ◌+◌, ◌*◌, ◌≤◌, ◌<◌, Bool, true, false, cond, not, List, [], ltb, length, take, Err}
+use Rattle.std.specs.Prelude.{ℕ, ◌+◌, ◌*◌, ◌≤◌, ◌<◌, Bool, true, false, cond, not, List, [], ltb, length, take, replicate, Result, Ok, Err}
+use Rattle.seq.specs.Ids.{none}
 use Rattle.seq.specs.Seq.{limit}
 use Rattle.page.specs.Store.{Store, ran}
 use Rattle.map.specs.Map.{free_count}
+use Rattle.chain.specs.declared.PagePointer.{PagePointer}
+use Rattle.chain.specs.Steps.{Stepped, stays, reaches, breaks}
+use Rattle.state.specs.declared.types.Refusal.{Refusal}
 use Rattle.state.specs.declared.types.Writer.{Writer}
 use Rattle.state.specs.declared.types.FileRecord.{FileRecord}
 use Rattle.state.specs.Values.{with_cursor, with_writer}
 use Rattle.state.specs.declared.types.State.{State}
-use Rattle.state.specs.declared.types.Table.{Table}
-use Rattle.state.specs.declared.types.Out.{Out}
-use Rattle.state.specs.declared.types.Refusal.TheVariants.{NoRoom, SeqEnd, NoSearch}
-use Rattle.writer.specs.declared.write.Pen.{Pen}
+use Rattle.state.specs.declared.types.Refusal.TheVariants.{Damaged, NoRoom, SeqEnd, NoSearch}
 use Rattle.writer.specs.Staging.{is_staged, flush_stores, flushed, space, pages_for, too_few}
 use Rattle.writer.specs.Write.{Writing, write_from}
+use Rattle.writer.specs.Open.{no_page}
 use Rattle.writer.specs.Finish.{Back, lost, pages, freed}
-
-abbrev pub out_of : Done → Table → State → Out
-out_of a t s = record { answer = a; table = t; state = s }
-
--- the writer with these bytes staged
-abbrev pub with_staged : Writer → List ℕ → Writer
-with_staged x l =
-    record {
-      active = x.active;
-      file = x.file;
-      seq = x.seq;
-      page = x.page;
-      previous = x.previous;
-      previous_header = x.previous_header;
-      copied = x.copied;
-      boundary = x.boundary;
-      ended = x.ended;
-      stored = x.stored;
-      length = x.length;
-      staged = l;
-    }
 
 -- ---- a flush, where a page is staged
 
@@ -56,12 +37,9 @@ pub record Made : Type 0 where
 abbrev pub makes : List ℕ → Writing → Made
 makes img x = record { image = ran img x.stores; map = x.map; cursor = x.cursor; writer = x.writer }
 
--- with map, pen and staged bytes as they are, nothing stored yet; and what they are with an image
-abbrev pub begins : List ℕ → List ℕ → Pen → Writing
-begins m s x = record { stores = []; map = m; cursor = x.cursor; writer = with_staged x.writer s }
-
-abbrev pub leaves : List ℕ → List ℕ → List ℕ → Pen → Made
-leaves img m s x = record { image = img; map = m; cursor = x.cursor; writer = with_staged x.writer s }
+-- a map and a state as they are, nothing stored yet
+abbrev pub begins : List ℕ → State → Writing
+begins m s = record { stores = []; map = m; cursor = s.cursor; writer = s.writer }
 
 -- ---- what holds on the way: the sums fit, and there is room for what is left, with a page kept back
 
@@ -85,6 +63,12 @@ may_write m s len =
     (cond (ltb limit (s.writer.seq + s.writer.length + len)) (Err SeqEnd)
     (cond (too_few m s.page_count (pages_for (space s.writer) len)) (Err NoRoom)
     fine))
+
+-- ---- what finishing goes by: the writer's file is in the table, and its end is a number
+
+pub record Ends (x : Writer) : Type 0 where
+  pub file : x.file ≤ 7
+  pub end : x.seq + x.length < 4294967296
 
 -- ---- a discard's walk
 
@@ -110,8 +94,7 @@ abbrev pub wrote : List ℕ → State → Writing → Wrote
 wrote img s x = record { image = ran img x.stores; map = x.map; state = with_writer (with_cursor s x.cursor) x.writer }
 
 abbrev pub written : List ℕ → List ℕ → State → List ℕ → Wrote
-written img m s l =
-    wrote img s (write_from s.page_count (length l) l (record { stores = []; map = m; cursor = s.cursor; writer = s.writer }))
+written img m s l = wrote img s (write_from s.page_count (length l) l (begins m s))
 
 -- ---- what opening goes by
 
@@ -120,6 +103,30 @@ pub record Sized (img : List ℕ) (s : State) : Type 0 where
   pub few : s.page_count ≤ 1024
   pub whole : s.page_count * 256 ≤ length img
   pub cursor : s.cursor < s.page_count
+
+-- a writer behind page q, with nothing staged
+abbrev pub behind : ℕ → ℕ → PagePointer → Writer
+behind i n q =
+    record {
+      active = true;
+      file = i;
+      seq = n;
+      page = none;
+      previous = q.page_id;
+      previous_header = q.header;
+      copied = none;
+      boundary = 0;
+      ended = true;
+      stored = 0;
+      length = 0;
+      staged = replicate 224 0;
+    }
+
+-- the page before a copied one, by the step back from it
+abbrev pub page_before : Stepped → Result PagePointer Refusal
+page_before stays = Ok no_page
+page_before breaks = Err Damaged
+page_before (reaches q) = Ok q
 
 -- so has it the record's last page
 pub record Stands (img : List ℕ) (s : State) (f : FileRecord) : Type 0 where

@@ -1,38 +1,34 @@
 // The writer's small questions (DECISIONS 46): each looks at no more than it is handed.
 ghost use Rattle.std.specs.Prelude.{◌≡◌};
-ghost use Rattle.state.specs.Refusals.{asked_numbers};
 ghost use Rattle.writer.specs.Ask.{space_left, curr_seq, offset_of};
 
-use state::types::{Asked, Refusal, State, Table};
+use state::types::{Refusal, State, Table};
 
-pub fn space_left_on_current_page(state: State) -> Asked
-    ensures { asked_numbers result ≡ asked_numbers (space_left state) }
+pub fn space_left_on_current_page(state: &State) -> Result<u64, Refusal>
+    ensures { result ≡ space_left state.now }
 {
-    let w = state.writer;
-    if w.active {
-        return Asked::Number(crate::staging::space_left(w) as u64);
+    let w = &state.writer;
+    if !w.active {
+        return Err(Refusal::NoSearch);
     }
-    Asked::Refused(Refusal::NoSearch)
+    Ok(crate::staging::space_left(w) as u64)
 }
 
 // The number of the next byte.
-pub fn curr_seq(state: State) -> Asked
-    ensures { asked_numbers result ≡ asked_numbers (curr_seq state) }
+pub fn curr_seq(state: &State) -> Result<u64, Refusal>
+    ensures { result ≡ curr_seq state.now }
 {
-    let w = state.writer;
-    if w.active {
-        return Asked::Number((w.seq as u64) + (w.length as u64));
+    let w = &state.writer;
+    if !w.active {
+        return Err(Refusal::NoSearch);
     }
-    Asked::Refused(Refusal::NoSearch)
+    Ok(u64::from(w.seq) + u64::from(w.length))
 }
 
 // How far it lies behind the first one of the writer's file.
-pub fn offset(table: Table, state: State) -> Asked
-    ensures { asked_numbers result ≡ asked_numbers (offset_of table state) }
+pub fn offset(table: &Table, state: &State) -> Result<u64, Refusal>
+    ensures { result ≡ offset_of table.now state.now }
 {
-    let w = state.writer;
-    if w.active {
-        return state::values::offset_in(table, w.file, (w.seq as u64) + (w.length as u64));
-    }
-    Asked::Refused(Refusal::NoSearch)
+    let n = curr_seq(state)?;
+    state::values::offset_in(table, state.writer.file, n)
 }

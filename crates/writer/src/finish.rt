@@ -1,162 +1,129 @@
 // Finishing a writer (Rust's commit), and discarding it.
-ghost use Rattle.std.specs.Prelude.{◌≡◌, true, ◌+◌, ◌≤◌, ◌<◌};
-ghost use Rattle.chain.specs.Steps.{read_at};
-ghost use Rattle.state.specs.Values.{file_at, with_file, no_writer, with_writer};
-ghost use Rattle.state.specs.World.{before, after, ended, yields, promised};
-ghost use Rattle.writer.specs.Staging.{staged_header, previous_of};
-ghost use Rattle.writer.specs.Finish.{marked, grown, finished, finish, back_from, discard};
-ghost use Rattle.writer.specs.Inner.{unbroken, freed_by};
+#![tactic(auto, unfolding(state::specs::Values::with_file, state::specs::Values::with_writer, crate::specs::Finish::grown, crate::specs::Finish::finish, crate::specs::Finish::finished, crate::specs::Finish::discard))]
 
-use chain::{Kind, PagePointer};
+ghost use Rattle.std.specs.Prelude.{◌≡◌, true};
+ghost use Rattle.chain.specs.Steps.{read_at};
+ghost use Rattle.state.specs.Refusals.{fine};
+ghost use Rattle.state.specs.Values.{file_at, with_file};
+ghost use Rattle.state.specs.World.{before, after, ended, yields, promised};
+ghost use Rattle.writer.specs.Staging.{staged_header};
+ghost use Rattle.writer.specs.Finish.{grown, finished, finish, back_from, discard};
+ghost use Rattle.writer.specs.Inner.{Ends, unbroken, freed_by};
+
+use chain::{PagePointer, Step};
 use page::DataHeader;
-use state::types::{Done, FileRecord, Out, Refusal, State, Table, Writer};
+use state::types::{FileRecord, Refusal, State, Table, Writer};
 
 // ---- finish
 
-// The state with its writer closed.
-fn closed(state: State) -> State
-    ensures { result ≡ with_writer state no_writer }
-{
-    crate::staging::with_writer(state, state::values::no_writer())
-}
-
 // The file ends with the staged page.
-fn grow(table: Table, w: Writer, header: DataHeader) -> Table
-    requires { (w.file ≤ 7) × (w.seq + w.length < 4294967296) × (header ≡ staged_header w) }
-    ensures { result ≡ with_file table w.file (grown (file_at table w.file) w) }
+fn grow(table: &mut Table, w: &Writer, header: DataHeader)
+    requires { Ends w.now × (header ≡ staged_header w.now) }
+    ensures { table.new ≡ with_file table.old w.now.file (grown (file_at table.old w.now.file) w.now) }
 {
-    let mut t = table;
-    let i = w.file as usize;
-    let f = t.files[i];
-    let g = FileRecord {
+    let file = usize::from(w.file);
+    table.files[file] = FileRecord {
         dirty: true,
         last_page: w.page,
         header,
-        first_seq: f.first_seq,
-        last_seq: w.seq + (w.length as u32),
-        flags: f.flags,
+        last_seq: w.seq + u32::from(w.length),
+        ..table.files[file]
     };
-    t.files[i] = g;
-    t
 }
 
 // The staged page is stored, the copied one held, and a transaction opened.
-fn finish_page(image: &mut [u8], map: &mut [u8], table: Table, state: State) -> Out
-    requires { (state.writer.file ≤ 7) × (state.writer.seq + state.writer.length < 4294967296) }
-    ensures { after result image.new map.new ≡ ended (before image.old map.old table state) (finished (before image.old map.old table state) state.writer) }
+fn finish_page(image: &mut [u8], map: &mut [u8], table: &mut Table, state: &mut State)
+    requires { Ends state.old.writer }
+    ensures { after fine image.new map.new table.new state.new ≡ ended (before image.old map.old table.old state.old) (finished (before image.old map.old table.old state.old) state.old.writer) }
 {
-    let w = state.writer;
+    let w = &state.writer;
     let header = crate::staging::staged_header(w);
-    let staged = crate::staging::staged_bytes(w);
-    crate::staging::flush_header(image, &staged, w.page, header);
+    crate::staging::flush_header(image, w, header);
     crate::staging::mark_page(map, w.copied, map::HELD);
-    let t = grow(table, w, header);
-    let s = closed(state::values::open_transaction(state));
-    Out {
-        answer: Done::Done,
-        table: t,
-        state: s,
-    }
+    grow(table, w, header);
+    state.transaction = true;
+    state.search = state::values::no_search();
+    state.writer = state::values::no_writer();
 }
 
-pub fn finish(image: &mut [u8], map: &mut [u8], table: Table, state: State) -> Out
-    ensures { yields result image.new map.new ≡ promised finish (before image.old map.old table state) }
+pub fn finish(
+    image: &mut [u8],
+    map: &mut [u8],
+    table: &mut Table,
+    state: &mut State,
+) -> Result<(), Refusal>
+    ensures { yields result image.new map.new table.new state.new ≡ promised finish (before image.old map.old table.old state.old) }
 {
-    let checked = state::checks::check(image.len(), map.len(), state, false, 0);
-    let Done::Done = checked else {
-        return Out {
-            answer: checked,
-            table,
-            state,
-        };
-    };
-    let w = state.writer;
-    if !w.active {
-        return crate::staging::refuse(table, state, Refusal::NoSearch);
+    state::checks::check(image.len(), map.len(), state, false, 0)?;
+    if !state.writer.active {
+        return Err(Refusal::NoSearch);
     }
-    if w.page == 65535 {
-        let s = closed(state);
-        return Out {
-            answer: Done::Done,
-            table,
-            state: s,
-        };
+    if state.writer.page == seq::ids::NONE {
+        state.writer = state::values::no_writer();
+        return Ok(());
     }
-    finish_page(image, map, table, state)
+    finish_page(image, map, table, state);
+    Ok(())
 }
 
 // ---- discard
 
 // Whether the last n pages from p back are all there. One step fewer than pages.
-fn is_unbroken(image: &[u8], count: usize, p: PagePointer, n: u32) -> bool
-    ensures { result ≡ unbroken (back_from count (read_at image.now) n p) }
+#[tactic(auto, using(crate::proofs::Backs::unbroken_first, crate::proofs::Backs::unbroken_more, crate::proofs::Backs::unbroken_stuck, crate::proofs::Backs::unbroken_last))]
+fn is_unbroken(image: &[u8], count: usize, p: &PagePointer, n: u32) -> bool
+    ensures { result ≡ unbroken (back_from count (read_at image.now) n p.now) }
 {
     let mut here = chain::place_of(p);
-    let mut left = n;
-    while 1 < left {
-        let next = chain::back(image, count, here, 0);
-        let kind = next.kind;
-        match kind {
-            Kind::Stays => return false,
-            Kind::Breaks => return false,
-            Kind::Reaches => {}
-        }
-        here = next.place;
-        left -= 1;
+    for _ in 1..n {
+        let Step::Reaches(next) = chain::back(image, count, here, 0) else {
+            return false;
+        };
+        here = next;
     }
     true
 }
 
-// Frees them.
-fn free_back(image: &[u8], map: &mut [u8], count: usize, p: PagePointer, n: u32)
-    requires { unbroken (back_from count (read_at image.now) n p) ≡ true }
-    ensures { map.new ≡ freed_by map.old (back_from count (read_at image.now) n p) }
+// Frees them, once it is known that they are there: a discard that is refused changes nothing.
+#[tactic(auto, using(crate::proofs::Backs::unbroken_first, crate::proofs::Backs::unbroken_more, crate::proofs::Backs::unbroken_stuck, crate::proofs::Backs::freed_none, crate::proofs::Backs::freed_start, crate::proofs::Backs::freed_more, crate::proofs::Backs::freed_end))]
+fn free_back(image: &[u8], map: &mut [u8], count: usize, p: &PagePointer, n: u32)
+    requires { unbroken (back_from count (read_at image.now) n p.now) ≡ true }
+    ensures { map.new ≡ freed_by map.old (back_from count (read_at image.now) n p.now) }
 {
     if n == 0 {
         return;
     }
     let mut here = chain::place_of(p);
-    let mut left = n;
-    map::free(map, here.page_id as usize);
-    while 1 < left {
-        let next = chain::back(image, count, here, 0);
-        here = next.place;
-        map::free(map, here.page_id as usize);
-        left -= 1;
+    map::free(map, usize::from(here.page_id));
+    for _ in 1..n {
+        let Step::Reaches(next) = chain::back(image, count, here, 0) else {
+            return;
+        };
+        here = next;
+        map::free(map, usize::from(here.page_id));
     }
 }
 
 // Exactly the pages that this writer allocated are free at once; the cursor stays.
-pub fn discard(image: &[u8], map: &mut [u8], table: Table, state: State) -> Out
-    ensures { yields result image.now map.new ≡ promised discard (before image.now map.old table state) }
+pub fn discard(
+    image: &[u8],
+    map: &mut [u8],
+    table: &Table,
+    state: &mut State,
+) -> Result<(), Refusal>
+    ensures { yields result image.now map.new table.now state.new ≡ promised discard (before image.now map.old table.now state.old) }
 {
-    let checked = state::checks::check(image.len(), map.len(), state, false, 0);
-    let Done::Done = checked else {
-        return Out {
-            answer: checked,
-            table,
-            state,
-        };
-    };
-    let w = state.writer;
+    state::checks::check(image.len(), map.len(), state, false, 0)?;
+    let w = &state.writer;
     if !w.active {
-        return crate::staging::refuse(table, state, Refusal::NoSearch);
+        return Err(Refusal::NoSearch);
     }
-    let header = w.previous_header;
-    let p = PagePointer {
-        page_id: w.previous,
-        header,
-    };
-    let count = state.page_count as usize;
-    if is_unbroken(image, count, p, w.stored) {
-        free_back(image, map, count, p, w.stored);
-        crate::staging::mark_page(map, w.page, map::FREE);
-        let s = closed(state);
-        return Out {
-            answer: Done::Done,
-            table,
-            state: s,
-        };
+    let count = usize::from(state.page_count);
+    let previous = crate::staging::previous_of(w);
+    if !is_unbroken(image, count, &previous, w.stored) {
+        return Err(Refusal::Damaged);
     }
-    crate::staging::refuse(table, state, Refusal::Damaged)
+    free_back(image, map, count, &previous, w.stored);
+    crate::staging::mark_page(map, w.page, map::FREE);
+    state.writer = state::values::no_writer();
+    Ok(())
 }

@@ -1,185 +1,160 @@
 // Opening a writer.
-ghost use Rattle.std.specs.Prelude.{◌≡◌, ◌+◌, ◌*◌, ◌≤◌, ◌<◌, length};
+#![tactic(auto, unfolding(state::specs::Values::with_cursor, state::specs::Values::with_writer, state::specs::Values::no_writer, crate::specs::Open::ready_writer, crate::specs::Open::copy_writer, crate::specs::Open::open_last, crate::specs::Open::open_in, crate::specs::Open::open_writer))]
+
+ghost use Rattle.std.specs.Prelude.{◌≡◌, ◌+◌, ◌*◌, ◌≤◌, length};
 ghost use Rattle.map.specs.Map.{alloc_of};
+ghost use Rattle.chain.specs.Steps.{read_at, back_rule, step};
+ghost use Rattle.chain.specs.Files.{last_of};
+ghost use Rattle.state.specs.declared.types.Table.{Table};
 ghost use Rattle.state.specs.World.{before, after, ended, yields, promised};
-ghost use Rattle.writer.specs.Open.{ready_writer, no_page, copy_writer, readied, copied_to, open_last, open_in, open_writer};
-ghost use Rattle.writer.specs.Inner.{out_of, Sized, Stands};
-ghost use Rattle.state.specs.Values.{with_writer};
+ghost use Rattle.writer.specs.Open.{ready_writer, no_page, copy_writer, copied_to, open_last, open_in, open_writer};
+ghost use Rattle.writer.specs.Inner.{behind, page_before, Sized, Stands};
 
-use chain::{Kind, PagePointer};
-use map::Alloc;
-use state::types::{Done, FileRecord, Out, Refusal, State, Table, Writer};
+use chain::{PagePointer, Step};
+use state::types::{FileRecord, Refusal, State, Table, Writer};
 
-// What no sequence number passes.
-const LIMIT: u32 = 4294967294;
-
-// Nothing staged: the file's last page is the page before.
-fn ready_writer(file: u8, f: FileRecord) -> Writer
-    ensures { result ≡ ready_writer file f }
+// A writer behind page q, with nothing staged.
+fn writer_behind(file: u8, seq: u32, q: &PagePointer) -> Writer
+    ensures { result ≡ behind file seq q.now }
 {
-    let previous_header = f.header;
     Writer {
         active: true,
         file,
-        seq: f.last_seq,
-        page: 65535,
-        previous: f.last_page,
-        previous_header,
-        copied: 65535,
+        seq,
+        previous: q.page_id,
+        previous_header: q.header,
         boundary: 0,
         ended: true,
-        stored: 0,
-        length: 0,
-        staged: [0; 224],
+        ..state::values::no_writer()
     }
+}
+
+// Nothing staged: the file's last page is the page before.
+fn ready_writer(file: u8, f: &FileRecord) -> Writer
+    ensures { result ≡ ready_writer file f.now }
+{
+    writer_behind(file, f.last_seq, &chain::last_of(f))
 }
 
 fn no_page() -> PagePointer
     ensures { result ≡ no_page }
 {
-    let header = state::values::no_header();
     PagePointer {
-        page_id: 65535,
-        header,
+        page_id: seq::ids::NONE,
+        header: state::values::no_header(),
     }
 }
 
 // The last page's bytes are staged on page p, behind page q.
-fn copy_writer(image: &[u8], file: u8, f: FileRecord, q: PagePointer, p: u16) -> Writer
-    requires { (f.last_page * 256 + 256 ≤ length image.now) × (f.header.length ≤ 224) }
-    ensures { result ≡ copy_writer image.now file f q p }
+#[tactic(auto, using(crate::proofs::Small::payload_part), unfolding(crate::specs::Open::copy_writer))]
+fn copy_writer(image: &[u8], file: u8, f: &FileRecord, q: &PagePointer, p: u16) -> Writer
+    requires { (f.now.last_page * 256 + 256 ≤ length image.now) × (f.now.header.length ≤ 224) }
+    ensures { result ≡ copy_writer image.now file f.now q.now p }
 {
-    let h = f.header;
-    let previous_header = q.header;
-    let mut staged = [0; 224];
-    runs::place(
-        &mut staged,
-        0,
-        page::payload_at(image, f.last_page as usize, 0, h.length as usize),
-    );
-    Writer {
-        active: true,
-        file,
-        seq: h.seq,
+    let h = &f.header;
+    let mut w = Writer {
         page: p,
-        previous: q.page_id,
-        previous_header,
         copied: f.last_page,
         boundary: h.record_boundary,
-        ended: true,
-        stored: 0,
         length: h.length,
-        staged,
-    }
+        ..writer_behind(file, h.seq, q)
+    };
+    let payload = page::payload_at(image, usize::from(f.last_page), 0, usize::from(h.length));
+    runs::place(&mut w.staged, 0, payload);
+    w
 }
 
-fn readied(table: Table, state: State, file: u8, f: FileRecord) -> Out
-    ensures { result ≡ out_of Done.Done table (with_writer state (ready_writer file f)) }
+// The page before the copied one is mount's next step from the old one.
+fn page_before(image: &[u8], count: usize, f: &FileRecord) -> Result<PagePointer, Refusal>
+    ensures { result ≡ page_before (step (back_rule count f.now.first_seq) (read_at image.now) (last_of f.now)) }
 {
-    let s = crate::staging::with_writer(state, ready_writer(file, f));
-    Out {
-        answer: Done::Done,
-        table,
-        state: s,
+    match chain::prev(image, count, &chain::last_of(f), f.first_seq) {
+        Step::Stays => Ok(no_page()),
+        Step::Reaches(q) => Ok(q),
+        Step::Breaks => Err(Refusal::Damaged),
     }
 }
 
-// The copy's page is allocated at once; nothing is stored yet.
+// The copy's page is allocated at once; nothing is stored yet. It makes no use of the table, so that it is the same with any.
 fn copied_to(
     image: &[u8],
     map: &mut [u8],
-    table: Table,
-    state: State,
+    state: &mut State,
     file: u8,
-    f: FileRecord,
-    q: PagePointer,
-) -> Out
-    requires { Stands image.now state f }
-    ensures { after result image.now map.new ≡ ended (before image.now map.old table state) (copied_to (before image.now map.old table state) file f q (alloc_of map.old state.page_count state.cursor)) }
+    f: &FileRecord,
+    q: &PagePointer,
+) -> Result<(), Refusal>
+    requires { Stands image.now state.old f.now }
+    ensures { (t : Table) → after result image.now map.new t state.new ≡ ended (before image.now map.old t state.old) (copied_to (before image.now map.old t state.old) file f.now q.now (alloc_of map.old state.old.page_count state.old.cursor)) }
 {
-    let n = state.page_count as usize;
-    let a = map::allocate(map, n, state.cursor as usize);
-    match a {
-        Alloc::Page(p) => {
-            let w = copy_writer(image, file, f, q, p as u16);
-            let mut s = state;
-            s.cursor = map::beyond_page(p, n) as u16;
-            s.writer = w;
-            Out {
-                answer: Done::Done,
-                table,
-                state: s,
-            }
-        }
-        Alloc::Full => crate::staging::refuse(table, state, Refusal::NoRoom),
-    }
+    let count = usize::from(state.page_count);
+    let Some(p) = map::allocate(map, count, usize::from(state.cursor)) else {
+        return Err(Refusal::NoRoom);
+    };
+    state.cursor = map::beyond_page(p, count) as u16;
+    state.writer = copy_writer(image, file, f, q, p as u16);
+    Ok(())
 }
 
-// A last page of 224 bytes is kept, a shorter one is copied. Its previous page is mount's next step from the old one.
+// A last page of 224 bytes is kept, a shorter one is copied.
+#[tactic(auto, using(crate::proofs::Opens::shaped_stands), unfolding(crate::specs::Open::open_last, crate::specs::Open::ready_writer, state::specs::Values::with_writer))]
 fn open_last(
     image: &[u8],
     map: &mut [u8],
-    table: Table,
-    state: State,
+    state: &mut State,
     file: u8,
-    f: FileRecord,
-) -> Out
-    requires { Sized image.now state }
-    ensures { after result image.now map.new ≡ ended (before image.now map.old table state) (open_last (before image.now map.old table state) file f) }
+    f: &FileRecord,
+) -> Result<(), Refusal>
+    requires { Sized image.now state.old }
+    ensures { (t : Table) → after result image.now map.new t state.new ≡ ended (before image.now map.old t state.old) (open_last (before image.now map.old t state.old) file f.now) }
 {
-    let h = f.header;
-    let count = state.page_count as usize;
-    let shaped = state::values::in_shape(f, count);
-    if h.length == 224 {
-        if shaped {
-            return readied(table, state, file, f);
-        }
-        return crate::staging::refuse(table, state, Refusal::Damaged);
+    let count = usize::from(state.page_count);
+    let full = usize::from(f.header.length) == page::PAYLOAD_SIZE;
+    if !full && crate::staging::too_few(map, state.page_count, 1) {
+        return Err(Refusal::NoRoom);
     }
-    if crate::staging::too_few(map, state.page_count, 1) {
-        return crate::staging::refuse(table, state, Refusal::NoRoom);
+    if !state::values::in_shape(f, count) {
+        return Err(Refusal::Damaged);
     }
-    if !shaped {
-        return crate::staging::refuse(table, state, Refusal::Damaged);
+    if full {
+        state.writer = ready_writer(file, f);
+        return Ok(());
     }
-    let step = chain::prev(image, count, chain::last_of(f), f.first_seq);
-    let kind = step.kind;
-    match kind {
-        Kind::Breaks => crate::staging::refuse(table, state, Refusal::Damaged),
-        Kind::Stays => copied_to(image, map, table, state, file, f, no_page()),
-        Kind::Reaches => {
-            let q = step.page;
-            copied_to(image, map, table, state, file, f, q)
-        }
-    }
+    let q = page_before(image, count, f)?;
+    copied_to(image, map, state, file, f, &q)
 }
 
 // By the file's record.
-fn open_in(image: &[u8], map: &mut [u8], table: Table, state: State, file: u8, f: FileRecord) -> Out
-    requires { Sized image.now state }
-    ensures { after result image.now map.new ≡ ended (before image.now map.old table state) (open_in (before image.now map.old table state) file f) }
+fn open_in(
+    image: &[u8],
+    map: &mut [u8],
+    state: &mut State,
+    file: u8,
+    f: &FileRecord,
+) -> Result<(), Refusal>
+    requires { Sized image.now state.old }
+    ensures { (t : Table) → after result image.now map.new t state.new ≡ ended (before image.now map.old t state.old) (open_in (before image.now map.old t state.old) file f.now) }
 {
-    if LIMIT < f.last_seq {
-        return crate::staging::refuse(table, state, Refusal::SeqEnd);
+    if seq::numbers::SEQ_LIMIT < u64::from(f.last_seq) {
+        return Err(Refusal::SeqEnd);
     }
-    if f.last_page == 65535 {
-        return readied(table, state, file, f);
+    if f.is_empty() {
+        state.writer = ready_writer(file, f);
+        return Ok(());
     }
-    open_last(image, map, table, state, file, f)
+    open_last(image, map, state, file, f)
 }
 
-pub fn open(image: &[u8], map: &mut [u8], table: Table, state: State, file: u8) -> Out
-    ensures { yields result image.now map.new ≡ promised (λ w. open_writer w file) (before image.now map.old table state) }
+#[tactic(auto, using(state::proofs::Laws::checks_pass, crate::proofs::Opens::passed_sized), unfolding(crate::specs::Open::open_writer))]
+pub fn open(
+    image: &[u8],
+    map: &mut [u8],
+    table: &Table,
+    state: &mut State,
+    file: u8,
+) -> Result<(), Refusal>
+    ensures { yields result image.now map.new table.now state.new ≡ promised (λ w. open_writer w file) (before image.now map.old table.now state.old) }
 {
-    let w = state.writer;
-    let checked = state::checks::check(image.len(), map.len(), state, w.active, file);
-    let Done::Done = checked else {
-        return Out {
-            answer: checked,
-            table,
-            state,
-        };
-    };
-    let f = table.files[file as usize];
-    open_in(image, map, table, state, file, f)
+    state::checks::check(image.len(), map.len(), state, state.writer.active, file)?;
+    open_in(image, map, state, file, &table.files[usize::from(file)])
 }

@@ -1,107 +1,76 @@
-// The staged page: its room, its header and its stores. The staged bytes are a slice of their own.
-ghost use Rattle.std.specs.Prelude.{◌≡◌, min, ◌<◌, length, take};
+// The staged page: its room, its header and its stores.
+#![tactic(auto, unfolding(crate::specs::Staging::staged_links, crate::specs::Staging::staged_header, crate::specs::Staging::space, crate::specs::Staging::pages_for, crate::specs::Staging::too_few))]
+
+ghost use Rattle.std.specs.Prelude.{◌≡◌, take};
 ghost use Rattle.page.specs.Store.{ran, data_stores};
-ghost use Rattle.state.specs.Values.{with_writer};
-ghost use Rattle.writer.specs.Staging.{named_below, staged_links, staged_header, space, pages_for, too_few};
+ghost use Rattle.writer.specs.Staging.{previous_of, named_below, staged_links, staged_header, space, pages_for, too_few};
 ghost use Rattle.writer.specs.Finish.{marked};
-ghost use Rattle.writer.specs.Inner.{out_of};
 
 use chain::PagePointer;
 use page::DataHeader;
-use state::types::{Done, Out, Refusal, State, Table, Writer};
-
-pub fn least(a: usize, b: usize) -> usize
-    ensures { result ≡ min a b }
-{
-    if a <= b { a } else { b }
-}
-
-// Nothing changes but the answer.
-pub fn refuse(table: Table, state: State, why: Refusal) -> Out
-    ensures { result ≡ out_of (Done.Refused why) table state }
-{
-    Out {
-        answer: Done::Refused(why),
-        table,
-        state,
-    }
-}
-
-pub fn with_writer(state: State, writer: Writer) -> State
-    ensures { result ≡ with_writer state writer }
-{
-    let mut s = state;
-    s.writer = writer;
-    s
-}
+use seq::ids::PageID;
+use state::types::Writer;
 
 // ---- room
 
 // What is left on the staged page.
-pub fn space_left(w: Writer) -> u16
-    ensures { result ≡ space w }
+pub fn space_left(w: &Writer) -> usize
+    ensures { result ≡ space w.now }
 {
-    if w.page == 65535 {
+    if w.page == seq::ids::NONE {
         return 0;
     }
-    if 224 <= w.length {
-        return 0;
-    }
-    224 - w.length
+    page::PAYLOAD_SIZE.saturating_sub(usize::from(w.length))
 }
 
 // How many further pages len bytes begin.
 pub fn pages_for(left: usize, len: usize) -> usize
     ensures { result ≡ pages_for left len }
 {
-    if len <= left {
-        return 0;
-    }
-    (len - left - 1) / 224 + 1
+    len.saturating_sub(left).div_ceil(page::PAYLOAD_SIZE)
 }
 
 // One free page is kept back. Where no page is wanted the map is not looked at.
 pub fn too_few(map: &[u8], count: u16, k: usize) -> bool
     ensures { result ≡ too_few map.now count k }
 {
-    if k == 0 {
-        return false;
-    }
-    map::count_free(map, count as usize) <= k
+    k != 0 && map::count_free(map, usize::from(count)) <= k
 }
 
 // ---- the page
-
-// Taken out of the writer, so that they can be lent.
-pub fn staged_bytes(w: Writer) -> [u8; 224]
-    ensures { result ≡ w.staged }
-{
-    w.staged
-}
 
 // A boundary not below the page's length is written as none.
 fn kept_boundary(boundary: u16, length: u16) -> u16
     ensures { result ≡ named_below boundary length }
 {
-    if boundary < length { boundary } else { 65535 }
+    if boundary < length {
+        boundary
+    } else {
+        state::values::NO_BOUNDARY
+    }
 }
 
-fn staged_links(w: Writer) -> [u16; 9]
-    ensures { result ≡ staged_links w }
+// The page before the staged one.
+pub fn previous_of(w: &Writer) -> PagePointer
+    ensures { result ≡ previous_of w.now }
 {
-    if w.previous == 65535 {
+    PagePointer {
+        page_id: w.previous,
+        header: w.previous_header,
+    }
+}
+
+fn staged_links(w: &Writer) -> [u16; 9]
+    ensures { result ≡ staged_links w.now }
+{
+    if w.previous == seq::ids::NONE {
         return chain::no_links();
     }
-    let header = w.previous_header;
-    let p = PagePointer {
-        page_id: w.previous,
-        header,
-    };
-    chain::links_after(p, w.seq)
+    chain::links_after(&previous_of(w), w.seq)
 }
 
-pub fn staged_header(w: Writer) -> DataHeader
-    ensures { result ≡ staged_header w }
+pub fn staged_header(w: &Writer) -> DataHeader
+    ensures { result ≡ staged_header w.now }
 {
     let skiplist = staged_links(w);
     DataHeader {
@@ -113,18 +82,18 @@ pub fn staged_header(w: Writer) -> DataHeader
 }
 
 // The staged page's three stores.
-pub fn flush_header(image: &mut [u8], staged: &[u8], page: u16, header: DataHeader)
-    ensures { image.new ≡ ran image.old (data_stores page header (take header.length staged.now)) }
+pub fn flush_header(image: &mut [u8], w: &Writer, header: DataHeader)
+    ensures { image.new ≡ ran image.old (data_stores w.now.page header (take header.length w.now.staged)) }
 {
-    let n = least(header.length as usize, staged.len());
-    page::store_data(image, page as usize, header, &staged[..n]);
+    let n = usize::from(header.length).min(w.staged.len());
+    page::store_data(image, usize::from(w.page), header, &w.staged[..n]);
 }
 
 // An id's byte becomes v, and none has none.
 pub fn mark_page(map: &mut [u8], id: u16, v: u8)
     ensures { map.new ≡ marked map.old id v }
 {
-    if id != 65535 {
-        map::mark(map, id as usize, v);
+    if let Some(page) = PageID::from_raw(id) {
+        map::mark(map, page.index(), v);
     }
 }

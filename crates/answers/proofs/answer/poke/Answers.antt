@@ -1,29 +1,16 @@
 -- `answers::answer::poke` meets its contract.
 -- Assumes nothing.
-use Rattle.answers.specs.Answer.{poked_by}
-use Rattle.answers.specs.Calls.{sight}
-use borrow.Author.Tests.{lt-leb, le-leb}
-use mathlib.Core.Path.{ap}
+use Rattle.std.proofs.Common.{arith, ◌+◌, ◌<◌, length}
+use Rattle.std.proofs.lemmas.Bool.{lt-leb}
 use Rattle.runs.proofs.Laws.{placed_out}
-use native.Mathlib.Omega.{arith}
-use lib.ListN.{length}
-use Prim.Native.Nat.{◌+◌, ◌≤◌, ◌<◌}
 use Rattle.answers.proofs.answer.poke.Goals as goal
+use Rattle.answers.proofs.answer.poke.Goals.{then-target-offset-via-then-target-offset, then-target-offset-via-else-target-offset+then-target-offset-2}
 
 pub returns-then-target-offset : goal.returns-then-target-offset
-unfolding poked_by
 returns-then-target-offset c = let a = c.args in
-    let h : length a.target.now < a.offset + length a.run.now = omega arith in
-    rw (placed_out _ _ _ h, lt-leb _ _ h) (ap (sight _) c.bad.ensures)
-
-pub returns-then-target-offset-2 : goal.returns-then-target-offset-2
-unfolding poked_by
-returns-then-target-offset-2 c = let a = c.args in
-    let h : length a.target.now < a.offset + length a.run.now = omega arith in
-    rw (placed_out _ _ _ h, lt-leb _ _ h) (ap (sight _) c.bad-then-target-offset-2.ensures)
-
-pub returns : goal.returns
-unfolding poked_by
-returns c = let a = c.args in
-    let h : a.offset + length a.run.now ≤ length a.target.now = omega arith in
-    rw (← c.place.ensures, le-leb _ _ h) (ap (sight _) c.ok.ensures)
+    let h : length a.target.now < a.offset + length a.run.now =
+    elim c.then-target-offset.branch [
+      | then-target-offset-via-then-target-offset w ↦ omega arith
+      | then-target-offset-via-else-target-offset+then-target-offset-2 w ↦ omega arith
+    ] in
+    rw (placed_out a.target.now a.offset a.run.now h, lt-leb _ _ h) (cc (c.bad.ensures))

@@ -6,4 +6,6 @@ use Rattle.map.proofs.Laws.{count_le}
 use Rattle.reader.proofs.ask.used_pages.Goals as goal
 
 pub overflow_sub-result : goal.overflow_sub-result
-overflow_sub-result c = let a = c.args in omega (arith, c.free_pages.ensures, count_le 0 (take a.state.page_count a.map.now), length-take a.state.page_count a.map.now)
+overflow_sub-result c =
+    let a = c.args in
+    omega (arith, count_le 0 (take a.state.now.page_count a.map.now), length-take a.state.now.page_count a.map.now)

@@ -7,9 +7,12 @@ use Rattle.reader.proofs.Bytes.{bytes, rest}
 use Rattle.reader.proofs.reading.read_bytes.Given as goal
 
 abbrev pub invariant-loop-done : goal.invariant-loop-done
-invariant-loop-done l = (l.done ≤ length l.out)
-    × (length l.out ≡ length l.initial.out)
-    × (rest l.image l.count l.f l.reader.seq (length l.initial.out) l.done l.out ≡ bytes l.image l.count l.f l.reader.seq (length l.initial.out))
+invariant-loop-done l =
+    record {
+      inside : l.done ≤ length l.out;
+      kept : length l.out ≡ length l.initial.out;
+      rest : rest l.image l.count l.f l.seq (length l.initial.out) l.done l.out ≡ bytes l.image l.count l.f l.seq (length l.initial.out);
+    }
 
 abbrev pub decreases-loop-done : goal.decreases-loop-done
-decreases-loop-done l = length l.out - l.done
+decreases-loop-done l = length l.initial.out - l.done

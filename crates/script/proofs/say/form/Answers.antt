@@ -1,33 +1,31 @@
 -- `script::say::form` meets its contract.
 -- Assumes nothing.
-use borrow.Author.Rules.{rules}
-use Rattle.script.proofs.Laws.{here}
-use Rattle.script.specs.Text.{spot, puts}
+use Rattle.std.proofs.Common.{◌≡◌, Some, None, drop, get_or, ◌+◌}
+use lib.ListN.{drop_of_length-le}
+use Rattle.script.specs.Text.{rest}
 use Rattle.script.specs.Say.{formed}
-use native.Mathlib.Omega.{arith}
-use lib.ListN.{length, drop, get_or, drop_of_length-le}
-use mathlib.Core.List.{◌∷◌}
-use mathlib.Core.Path.{◌≡◌, refl, ◌∙◌}
-use Prim.Native.Nat.{◌+◌, ◌≤◌, ◌<◌}
+use Rattle.script.proofs.Laws.{here}
+use Rattle.script.proofs.Pieces.{form_next, form_last}
 use Rattle.script.proofs.say.form.Goals as goal
 
-pub loop-i-init : goal.loop-i-init
-loop-i-init c = (omega arith, refl, refl)
+pub loop-n-preserved : goal.loop-n-preserved
+loop-n-preserved c = let l = c.loop-n in
+    let ns = c.args.numbers.now in
+    let n = get_or ns l.n-index 0 in
+    let more = drop (l.n-index + 1) ns in
+    let e : Some c.in-Some.rest.now ≡ rest 37 l.left.now = rw c.in-Some.is at c.cut.ensures.back in
+    cc (form_next l.output l.left.now c.in-Some.rest.now n more e, here ns l.n-index c.loop-n-test.true, l.invariant, c.put.ensures, c.put_number.ensures, c.cut.ensures.front)
 
-pub loop-i-preserved : goal.loop-i-preserved
-loop-i-preserved c = let a = c.args in
-    let l = c.loop-i in
-    let p = c.part-place in
-    let n : length a.numbers ≡ 9 = search rules in
-    let k : l.i < length a.numbers = omega arith in
-    let e : puts (spot l.out l.place.at) (formed (drop l.place.from a.form.now) (get_or a.numbers l.i 0 ∷ drop (l.i + 1) a.numbers))
-    ≡ puts (spot a.out.now a.at) (formed a.form.now a.numbers) = rw (here a.numbers l.i k) at l.invariant.2 in
-    (omega arith, search rules, p.ensures (drop (l.i + 1) a.numbers) ∙ e)
+pub returns-in_default : goal.returns-in_default
+returns-in_default c = let l = c.loop-n in
+    let ns = c.args.numbers.now in
+    let n = get_or ns l.n-index 0 in
+    let more = drop (l.n-index + 1) ns in
+    let e : None ≡ rest 37 l.left.now = rw c.in_default.is at c.cut.ensures.back in
+    cc (form_last l.output l.left.now n more e, here ns l.n-index c.loop-n-test.true, l.invariant, c.put.ensures, c.cut.ensures.front)
 
 pub returns : goal.returns
-unfolding formed puts
-returns c = let a = c.args in
-    let l = c.loop-i in
-    let n : length a.numbers ≡ 9 = search rules in
-    let k : length a.numbers ≤ l.i = omega arith in
-    cc (rw (drop_of_length-le a.numbers k) at l.invariant.2)
+unfolding formed
+returns c = let l = c.loop-n in
+    let w = rw (drop_of_length-le c.args.numbers.now c.loop-n-test.false) at l.invariant in
+    cc (w, c.put-2.ensures, c.cut-2.ensures.front)

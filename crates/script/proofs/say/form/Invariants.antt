@@ -1,14 +1,9 @@
--- `script::say::form` meets its contract.
+-- `script::say::form` meets its contract. The invariant: what is left, put behind what is held, gives the whole.
 -- Assumes nothing.
-use Rattle.script.specs.Text.{spot, puts}
+use Rattle.std.proofs.Common.{◌≡◌, drop}
+use Rattle.script.specs.Text.{puts}
 use Rattle.script.specs.Say.{formed}
-use lib.ListN.{length, drop}
-use mathlib.Core.Path.{◌≡◌}
-use Prim.Native.Nat.{◌-◌, ◌≤◌}
 use Rattle.script.proofs.say.form.Given as goal
 
-abbrev pub invariant-loop-i : goal.invariant-loop-i
-invariant-loop-i l = (l.i ≤ 9) × (length l.out ≡ length l.initial.out) × (puts (spot l.out l.place.at) (formed (drop l.place.from l.form) (drop l.i l.numbers)) ≡ puts (spot l.initial.out l.at) (formed l.form l.numbers))
-
-abbrev pub decreases-loop-i : goal.decreases-loop-i
-decreases-loop-i l = 9 - l.i
+abbrev pub invariant-loop-n : goal.invariant-loop-n
+invariant-loop-n l = puts l.output (formed l.left (drop l.n-index l.numbers)) ≡ puts l.initial.output (formed l.form l.numbers)

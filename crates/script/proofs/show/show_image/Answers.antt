@@ -1,31 +1,16 @@
 -- `script::show::show_image` meets its contract.
 -- Assumes nothing.
-use Rattle.script.specs.Show.{sum_shown, image_shown}
-use borrow.Author.Rules.{rules}
+use Rattle.std.proofs.Common.{◌/◌, length, sym, ◌∙◌}
+use Rattle.script.specs.Show.{lines, sum_shown}
 use Rattle.script.proofs.Pieces.{puts_more, lines_step, lines_end}
-use Rattle.script.specs.Text.{spot}
-use native.Mathlib.Omega.{arith}
-use lib.ListN.{length}
-use mathlib.Core.Path.{◌≡◌, refl, sym, ◌∙◌}
-use Prim.Native.Nat.{◌-◌, ◌/◌, ◌≤◌, ◌<◌}
 use Rattle.script.proofs.show.show_image.Goals as goal
 
-pub loop-p-init : goal.loop-p-init
-loop-p-init c = let n = length c.args.image.now / 256 in
-    let e : n - 0 ≡ n = omega arith in
-    (omega arith, refl, rw e)
-
 pub loop-p-preserved : goal.loop-p-preserved
-loop-p-preserved c = let a = c.args in
-    let l = c.loop-p in
-    let k : l.p < length a.image.now / 256 = omega arith in
-    (omega arith, search rules, lines_step (sum_shown a.image.now) l.p _ _ _ _ k c.show_sum-at.ensures l.invariant.2)
+loop-p-preserved c = let l = c.loop-p in
+    lines_step (sum_shown c.args.image.now) l.p (length c.args.image.now / 256) _ _ _ c.loop-p-test.true c.show_sum.ensures l.invariant
 
 pub returns : goal.returns
-unfolding image_shown
-returns c = let a = c.args in
-    let l = c.loop-p in
-    let n = length a.image.now / 256 in
-    let k : n ≤ l.p = omega arith in
-    let e = sym (lines_end (sum_shown a.image.now) l.p n (spot l.out l.at) k) ∙ l.invariant.2 in
-    rw (puts_more, ← e, ← c.adler32.ensures) c.one.ensures
+returns c = let l = c.loop-p in
+    let n = length c.args.image.now / 256 in
+    let e = sym (lines_end (sum_shown c.args.image.now) l.p n l.output c.loop-p-test.false) ∙ l.invariant in
+    rw (puts_more c.args.output.now (lines (sum_shown c.args.image.now) 0 n)) (cc (e, c.adler32.ensures, c.form.ensures))

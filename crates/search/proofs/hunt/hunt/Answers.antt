@@ -7,7 +7,7 @@ use Rattle.seq.proofs.Laws.{level_le}
 use Rattle.search.proofs.hunt.hunt.Goals as goal
 
 pub really_seek-requires : goal.really_seek-requires
-really_seek-requires c = omega (arith, c.first_level-level.ensures, level_le (c.args.left + 1) c.args.right)
+really_seek-requires c = omega (arith, c.first_level-level.ensures, level_le (c.args.s.now.left + 1) c.args.s.now.right)
 
 pub returns : goal.returns
 returns c = c.really_seek.ensures ∙ rw c.first_level-level.ensures

@@ -1,13 +1,13 @@
 -- `search::hunt::target_of` meets its contract: a jump from above 0 by one of nine links is a number.
 -- Assumes nothing.
-use Rattle.search.proofs.Levels.{jumped}
+use mathlib.Core.Path.{◌∙◌}
+use native.Mathlib.Omega.{arith}
+use Rattle.search.proofs.Levels.{jumped, number_below}
 use Rattle.search.proofs.hunt.target_of.Goals as goal
 
-pub returns-in-Number : goal.returns-in-Number
-returns-in-Number c = let e = jumped c.args.right c.args.level c.requires.0 c.requires.1 c.skiplist_seq-jump.result c.skiplist_seq-jump.ensures in let q = c.in-Number.is in cc
-
-pub returns-in-Range : goal.returns-in-Range
-returns-in-Range c = let e = jumped c.args.right c.args.level c.requires.0 c.requires.1 c.skiplist_seq-jump.result c.skiplist_seq-jump.ensures in let q = c.in-Range.is in cc
-
-pub returns-in-SeqEnd : goal.returns-in-SeqEnd
-returns-in-SeqEnd c = let e = jumped c.args.right c.args.level c.requires.0 c.requires.1 c.skiplist_seq-jump.result c.skiplist_seq-jump.ensures in let q = c.in-SeqEnd.is in cc
+pub returns : goal.returns
+returns c =
+    let a = c.args in
+    let e = c.unwrap_or.ensures ∙ jumped a.right a.level c.requires.0 c.requires.1 c.skiplist_seq.result c.skiplist_seq.ensures in
+    let l = number_below a.right a.level c.requires.1 c.requires.0 in
+    record { number = e; bound = omega (arith, e, l, c.ranges.right) }

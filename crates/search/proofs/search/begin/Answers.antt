@@ -5,17 +5,19 @@ use Rattle.chain.specs.Steps.{read_at}
 use Rattle.search.proofs.Calls.{begun_empty, begun_hunts, begun_broken}
 use Rattle.search.proofs.search.begin.Goals as goal
 
-pub returns-then-f-eq65535 : goal.returns-then-f-eq65535
-returns-then-f-eq65535 c =
+pub returns-then-is_empty : goal.returns-then-is_empty
+returns-then-is_empty c =
     let a = c.args in
-    begun_empty a.old a.count (read_at a.image.now) a.file a.f c.if-f-eq65535.true _ c.no_search-search.ensures
+    let e = begun_empty a.search.now a.count (read_at a.image.now) a.file a.f.now (sym c.if-is_empty.true ∙ c.is_empty.ensures) in
+    rw c.no_search.ensures e
 
-pub returns-then-in_shape : goal.returns-then-in_shape
-returns-then-in_shape c =
+pub returns-then-not-in_shape : goal.returns-then-not-in_shape
+returns-then-not-in_shape c =
     let a = c.args in
-    c.sought.ensures ∙ begun_hunts a.old a.count (read_at a.image.now) a.file a.f c.if-f-eq65535.false (sym c.in_shape.ensures ∙ c.if-in_shape.true) _ c.start_of.ensures
+    begun_broken a.search.now a.count (read_at a.image.now) a.file a.f.now (sym c.is_empty.ensures ∙ c.if-is_empty.false) (sym c.in_shape.ensures ∙ c.if-not-in_shape.true)
 
 pub returns : goal.returns
 returns c =
     let a = c.args in
-    begun_broken a.old a.count (read_at a.image.now) a.file a.f c.if-f-eq65535.false (sym c.in_shape.ensures ∙ c.if-in_shape.false)
+    c.sought.ensures
+    ∙ begun_hunts a.search.now a.count (read_at a.image.now) a.file a.f.now (sym c.is_empty.ensures ∙ c.if-is_empty.false) (sym c.in_shape.ensures ∙ c.if-not-in_shape.false) _ c.start_of.ensures

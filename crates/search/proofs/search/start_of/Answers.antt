@@ -3,4 +3,4 @@
 use Rattle.search.proofs.search.start_of.Goals as goal
 
 pub returns : goal.returns
-returns c = rw (c.links_after-links.ensures, c.last_of.ensures)
+returns c = rw (c.links_after.ensures, c.last_of.ensures)

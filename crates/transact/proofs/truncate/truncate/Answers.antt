@@ -1,80 +1,39 @@
--- `transact::truncate::truncate` meets its contract: one law for each exit.
+-- `transact::truncate::truncate` meets its contract: where the file is not empty, whether its walk ends says which exit it is.
 -- Assumes nothing.
-use mathlib.Core.Path.{sym, ◌∙◌, refl, ap}
-use Rattle.state.specs.Refusals.{numbers}
-use Rattle.state.specs.World.{World, before, ended, in_numbers}
-use Prim.Native.Nat.{ℕ}
-use native.Mathlib.Omega.{arith}
-use borrow.Author.Tests.{not-true, not-false}
-use Rattle.state.proofs.Laws.{checks_pass}
-use Rattle.state.specs.Values.{file_at}
-use Rattle.transact.specs.Truncate.{cut, unreached, held_all, truncate}
-use Rattle.transact.proofs.Exits.{refused_is, changed_is, truncate_refused, truncate_none, truncate_empty, truncate_damaged, truncate_held}
+use Rattle.std.specs.Prelude.{Some, None, Err}
+use mathlib.Core.Path.{◌≡◌, sym, ◌∙◌, ap}
+use borrow.Author.Tests.{eqb-false}
+use Rattle.std.specs.Result.{result_ok}
+use Rattle.std.proofs.Common.{rules}
+use Rattle.state.specs.declared.types.Refusal.TheVariants.{Damaged}
+use Rattle.state.specs.Refusals.{numbers, Done}
+use Rattle.state.specs.World.{Outcome, before, ended, in_numbers, yields}
+use Rattle.transact.proofs.Steps.{edge_says, edge_not}
+use Rattle.transact.proofs.Exits.{truncate_damaged, truncate_held}
 use Rattle.transact.proofs.truncate.truncate.Goals as goal
 
-pub returns-in-Refused : goal.returns-in-Refused
-returns-in-Refused c =
+pub returns-in_err-edge : goal.returns-in_err-edge
+returns-in_err-edge c =
     let a = c.args in
-    let w = before a.image.now a.map.now a.table a.state in
-    ap (in_numbers numbers)
-    (refused_is (λ (x : World). truncate x a.file a.bytes) w _ _ c.refuse.ensures
-    (truncate_refused w a.file a.bytes _ (sym c.check-seen.ensures ∙ c.in-Refused.is)))
-
-pub returns-then-bytes-eq0 : goal.returns-then-bytes-eq0
-returns-then-bytes-eq0 c =
-    let a = c.args in
-    let w = before a.image.now a.map.now a.table a.state in
-    ap (in_numbers numbers)
-    (sym (ap (ended w) (truncate_none w a.file a.bytes (sym c.check-seen.ensures ∙ c.in_default.is) c.if-bytes-eq0.true)))
-
-pub bounds-table-i : goal.bounds-table-i
-bounds-table-i c =
-    let k = checks_pass _ _ _ _ _ (sym c.check-seen.ensures ∙ c.in_default.is) in
-    omega (arith, k.known)
-
-pub change-requires : goal.change-requires
-change-requires c =
-    let k = checks_pass _ _ _ _ _ (sym c.check-seen.ensures ∙ c.in_default.is) in
-    omega (arith, k.known)
-
-pub returns-then-f : goal.returns-then-f
-returns-then-f c =
-    let a = c.args in
-    let w = before a.image.now a.map.now a.table a.state in
-    ap (in_numbers numbers)
-    (changed_is (λ (x : World). truncate x a.file a.bytes) w _ _ _ _ _ _ c.change.ensures c.emptied.ensures refl
-    (truncate_empty w a.file a.bytes (sym c.check-seen.ensures ∙ c.in_default.is) c.if-bytes-eq0.false c.if-f.true))
-
-pub edge_of-edge-requires : goal.edge_of-edge-requires
-edge_of-edge-requires c = omega (arith, c.new_first-first.ensures)
-
-pub returns-then-not-edge : goal.returns-then-not-edge
-returns-then-not-edge c =
-    let a = c.args in
-    let w = before a.image.now a.map.now a.table a.state in
-    ap (in_numbers numbers)
-    (refused_is (λ (x : World). truncate x a.file a.bytes) w _ _ c.refuse-then-not-edge.ensures
-    (truncate_damaged w a.file a.bytes (sym c.check-seen.ensures ∙ c.in_default.is) c.if-bytes-eq0.false c.if-f.false
-    (sym c.edge_of-edge.ensures.0 ∙ not-true _ c.if-not-edge.true)))
-
--- the walk ends at a page, and which
-pub hold_unreached-requires : goal.hold_unreached-requires
-hold_unreached-requires c =
-    let ok = not-false _ c.if-not-edge.false in
-    (sym c.edge_of-edge.ensures.0 ∙ ok, omega (arith, c.new_first-first.ensures), c.edge_of-edge.ensures.1 ok)
-
-pub change-requires-2 : goal.change-requires-2
-change-requires-2 c =
-    let k = checks_pass _ _ _ _ _ (sym c.check-seen.ensures ∙ c.in_default.is) in
-    omega (arith, k.known)
+    let w = before a.image.now a.map.now a.table.now a.state.now in
+    let none : c.edge_of.result ≡ None = c.ok_or.ensures.ok_part ∙ ap result_ok c.in_err-edge.was in
+    let d =
+    truncate_damaged w a.file a.bytes (sym c.check.ensures ∙ c.in_ok-check.was) c.if-bytes-eq0.false
+    (rw c.from-i.ensures at (eqb-false _ _ (sym c.is_empty.ensures ∙ c.if-is_empty.false)))
+    (rw (c.from-i.ensures, c.from-count.ensures) at (edge_not _ _ _ _ (sym none ∙ c.edge_of.ensures)))
+    in
+    let r : c.from_residual-in_err-edge.result ≡ Err Damaged = search rules in
+    ap (λ (x : Done). yields x a.image.now a.map.now a.table.now a.state.now) r ∙ sym (ap (λ (o : Outcome Done). in_numbers numbers (ended w o)) d)
 
 pub returns : goal.returns
 returns c =
     let a = c.args in
-    let w = before a.image.now a.map.now a.table a.state in
-    ap (in_numbers numbers)
-    (changed_is (λ (x : World). truncate x a.file a.bytes) w _ _ _ _ _ _ c.change-2.ensures
-    (c.cut.ensures ∙ ap (cut (file_at a.table a.file)) c.new_first-first.ensures)
-    (c.hold_unreached.ensures ∙ ap (λ (n : ℕ). held_all a.map.now (unreached a.image.now a.state.page_count (file_at a.table a.file) n)) c.new_first-first.ensures)
-    (truncate_held w a.file a.bytes (sym c.check-seen.ensures ∙ c.in_default.is) c.if-bytes-eq0.false c.if-f.false
-    (sym c.edge_of-edge.ensures.0 ∙ not-false _ c.if-not-edge.false)))
+    let w = before a.image.now a.map.now a.table.now a.state.now in
+    let some : c.edge_of.result ≡ Some c.in_ok-edge.edge = c.ok_or.ensures.ok_part ∙ ap result_ok c.in_ok-edge.was in
+    let d =
+    truncate_held w a.file a.bytes (sym c.check.ensures ∙ c.in_ok-check.was) c.if-bytes-eq0.false
+    (rw c.from-i.ensures at (eqb-false _ _ (sym c.is_empty.ensures ∙ c.if-is_empty.false)))
+    (rw (c.from-i.ensures, c.from-count.ensures) at (edge_says _ _ _ _ _ (sym some ∙ c.edge_of.ensures)).0)
+    in
+    rw (c.change-2.ensures.0, c.change-2.ensures.1, c.hold_unreached.ensures, c.cut-shorter.ensures, c.new_first-first.ensures, c.from-i.ensures, c.from-count.ensures)
+    (sym (ap (λ (o : Outcome Done). in_numbers numbers (ended w o)) d))

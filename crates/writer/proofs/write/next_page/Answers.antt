@@ -1,31 +1,25 @@
 -- `writer::write::next_page` meets its contract: the staged page is stored, then a page allocated.
 -- Assumes nothing.
 use native.Mathlib.Omega.{arith}
-use Rattle.writer.proofs.Pages.{alloc_small, beyond_small, next_page_lem, next_full}
+use Rattle.state.specs.Values.{with_cursor, with_writer}
+use Rattle.writer.proofs.Pages.{alloc_small, next_page_lem, next_full}
 use Rattle.writer.proofs.write.next_page.Goals as goal
-
-pub flush-w-requires : goal.flush-w-requires
-flush-w-requires c = let h = c.requires in (omega (arith, h.end), omega (arith, h.end, h.stored))
 
 pub overflow_cast-p : goal.overflow_cast-p
 overflow_cast-p c =
     let h = c.requires in
-    let e = alloc_small c.args.map.now _ c.args.count c.args.x.cursor _ _ c.allocate-a.ensures c.in-Page.is h.cursor in
-    omega (arith, h.few, e)
+    let e = alloc_small _ _ _ _ c.in-Some.p _ c.allocate.ensures c.in-Some.is (omega arith) in
+    omega arith
 
-pub overflow_cast-result : goal.overflow_cast-result
-overflow_cast-result c =
-    let h = c.requires in
-    let e = beyond_small c.args.count c.in-Page.p c.beyond_page.result c.beyond_page.ensures (omega (arith, h.cursor)) in
-    omega (arith, h.few, e, c.beyond_page.ensures)
-
-pub returns-in-Page : goal.returns-in-Page
-returns-in-Page c =
+pub returns-in-Some : goal.returns-in-Some
+unfolding with_cursor with_writer
+returns-in-Some c =
     let a = c.args in
-    let n = next_page_lem a.image.now a.map.now a.staged.now a.count a.x _ _ _ _ c.flush-w.ensures.0 c.flush-w.ensures.1 c.allocate-a.ensures _ c.in-Page.is in
-    rw (c.beyond_page.ensures, c.staged_on-next.ensures) n
+    let n = next_page_lem a.image.now a.map.now a.state.now _ _ _ _ c.flush.ensures.0 c.flush.ensures.1 (rw (← c.from-count.ensures, ← c.from.ensures) c.allocate.ensures) c.in-Some.p c.in-Some.is in
+    rw (c.staged_on.ensures, c.beyond_page.ensures, c.from-count.ensures) n
 
-pub returns-in-Full : goal.returns-in-Full
-returns-in-Full c =
+pub returns-in_default : goal.returns-in_default
+unfolding with_cursor with_writer
+returns-in_default c =
     let a = c.args in
-    next_full a.image.now a.map.now a.staged.now a.count a.x _ _ _ _ c.flush-w.ensures.0 c.flush-w.ensures.1 c.allocate-a.ensures c.in-Full.is
+    next_full a.image.now a.map.now a.state.now _ _ _ _ c.flush.ensures.0 c.flush.ensures.1 (rw (← c.from-count.ensures, ← c.from.ensures) c.allocate.ensures) c.in_default.is
