@@ -1,5 +1,6 @@
 -- A listing beside the mount that it makes: a line counts the pages that mount's walk of its file visits, never the 0 of a walk that
 -- breaks. That mount claims just those pages is said in `volume` (`mount_says`). Assumes nothing.
+use Rattle.std.specs.Prelude.{Option, Some, None, Ok, Err}
 use Rattle.state.specs.Refusals.{Done, fine}
 use mathlib.Core.Path.{◌≡◌, refl, sym, ap, subst, ◌∙◌}
 use mathlib.Core.Bool.{false}
@@ -20,12 +21,22 @@ use Rattle.state.specs.World.{Outcome}
 use Rattle.volume.specs.Mounted.{FileIs, FilesAre, pages_of as claimed}
 use Rattle.volume.proofs.Mounts.{mount_says}
 use Rattle.inventory.specs.declared.FileLine.{FileLine}
-use Rattle.inventory.specs.Inventory.{no_line, pages_of, line_of, lines_of, mounted, inventory_of}
+use Rattle.inventory.specs.Inventory.{Inventory, no_line, pages_of, line_of, lines_of, mounted, inventory_of}
+
+-- the pages of a file's line, and none of a file without one
+abbrev pub pages_in : Option FileLine → ℕ
+pages_in None = 0
+pages_in (Some l) = l.pages
+
+-- the lines of an image that is listed
+abbrev pub lines_in : Inventory → List (Option FileLine)
+lines_in (Err why) = []
+lines_in (Ok l) = l
 
 module _ (img : List ℕ) (count : ℕ) where
   -- a file's line counts the pages that mount claims for it
   abbrev Counted : FileRecord → Type 0
-  Counted f = (line_of img count f).pages ≡ length (claimed img count f)
+  Counted f = pages_in (line_of img count f) ≡ length (claimed img count f)
 
   line_pages : (p first flags : ℕ) (f : FileRecord) → FileIs img count p first flags f → Counted f
   unfolding line_of pages_of claimed empty_record
@@ -53,8 +64,8 @@ module _ (img : List ℕ) (count : ℕ) where
 
 -- ---- the whole
 
-abbrev pub line_at : List ℕ → ℕ → FileLine
-line_at img i = get_or (inventory_of img).lines i no_line
+abbrev pub line_at : List ℕ → ℕ → Option FileLine
+line_at img i = get_or (lines_in (inventory_of img)) i no_line
 
 abbrev pub count_of : List ℕ → ℕ
 count_of img = (mounted img).state.page_count
@@ -69,17 +80,17 @@ module _ (img : List ℕ) (fits : length img ≤ 65536) (good : (mounted img).an
   listed_line = rw (le-ltb _ _ fits, good) (line_at_lem img (count_of img) (mounted img).table i some)
 
   -- an empty file's line has none
-  pub listed_pages : (line_at img i).pages ≡ length (claimed img (count_of img) (file_of img i))
+  pub listed_pages : pages_in (line_at img i) ≡ length (claimed img (count_of img) (file_of img i))
   unfolding settled
   listed_pages =
       let x = mount_says _ good in
       let m = x.mounted in
-      ap (λ (l : FileLine). l.pages) listed_line
+      ap pages_in listed_line
       ∙ subst (λ (o : Outcome Done). Counted img o.state.page_count (file_at o.table i)) (sym x.is)
       (lines_pages img x.best.page_count _ 0 x.files m.are i (omega (arith, m.eight)))
 
   -- any other's has at least one
   pub listed_walk : is_empty (file_of img i) ≡ false
-      → (line_at img i).pages ≡ length (visited (last_of (file_of img i)) (walk (count_of img) (read_at img) (file_of img i).first_seq (last_of (file_of img i))))
+      → pages_in (line_at img i) ≡ length (visited (last_of (file_of img i)) (walk (count_of img) (read_at img) (file_of img i).first_seq (last_of (file_of img i))))
   unfolding claimed
   listed_walk e = listed_pages ∙ rw e

@@ -3,13 +3,13 @@
 
 ghost use Rattle.std.specs.Prelude.{◌≤◌, length, IfOk};
 
-use inventory::{FileLine, Inventory};
+use inventory::FileLine;
+use state::types::Refusal;
 use std::io;
 use std::io::Read;
 
 fn print_line(rt: &impl Print, id: usize, line: &FileLine) -> io::Result<()> {
     let FileLine {
-        live: _,
         first,
         last,
         flags,
@@ -19,23 +19,25 @@ fn print_line(rt: &impl Print, id: usize, line: &FileLine) -> io::Result<()> {
 }
 
 // An empty file has no line.
-fn print_files(rt: &impl Print, lines: [FileLine; 8]) -> io::Result<()> {
-    let count = lines.iter().filter(|line| line.live).count();
+fn print_files(rt: &impl Print, lines: [Option<FileLine>; 8]) -> io::Result<()> {
+    let count = lines.iter().filter(|line| line.is_some()).count();
     println!(rt; "files {count}")?;
     for (id, line) in lines.iter().enumerate() {
-        if line.live {
+        if let Some(line) = line {
             print_line(rt, id, line)?;
         }
     }
     Ok(())
 }
 
-fn print_inventory(rt: &impl Print, inv: Inventory) -> io::Result<()> {
-    let refused = inv.refused;
-    if refused != 0 {
-        return println!(rt; "refused {refused}");
+fn print_inventory(rt: &impl Print, inventory: Result<[Option<FileLine>; 8], Refusal>) -> io::Result<()> {
+    match inventory {
+        Ok(lines) => print_files(rt, lines),
+        Err(why) => {
+            let refused = u8::from(why);
+            println!(rt; "refused {refused}")
+        }
     }
-    print_files(rt, inv.lines)
 }
 
 // Fills buf as far as the input goes, and answers how many bytes came. `read_to_end` would allocate, and read on after an interruption.

@@ -3,13 +3,14 @@
 -- Assumes nothing.
 use mathlib.Core.Path.{◌≡◌}
 use Prim.Native.Nat.{◌+◌, ◌≤◌}
+use Rattle.chain.specs.Links.{start}
 use Rattle.chain.specs.Steps.{read_at}
-use Rattle.chain.specs.Back.{walk_back}
-use Rattle.inventory.proofs.Pages.{counted}
+use Rattle.inventory.specs.Inventory.{counted_from}
+use Rattle.inventory.proofs.Pages.{counts_from}
 use Rattle.inventory.proofs.count_pages.Given as goal
 
-abbrev pub invariant-loop-here : goal.invariant-loop-here
-invariant-loop-here l = (counted l.n (walk_back l.count (read_at l.image) l.limit l.here) ≡ counted 1 (walk_back l.count (read_at l.image) l.limit l.initial.here)) × (l.n + l.here.seq ≤ l.initial.here.seq + 1)
+abbrev pub invariant-loop-next : goal.invariant-loop-next
+invariant-loop-next l = (counts_from l.count (read_at l.image) l.limit l.n l.here ≡ counted_from l.image l.count l.limit 1 l.p) × (l.n + l.here.seq ≤ start l.p + 1)
 
-abbrev pub decreases-loop-here : goal.decreases-loop-here
-decreases-loop-here l = l.here.seq
+abbrev pub decreases-loop-next : goal.decreases-loop-next
+decreases-loop-next l = l.here.seq
