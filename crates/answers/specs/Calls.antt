@@ -1,6 +1,6 @@
 -- The calls that commands make, and what is said of each answer, by docs/REPLAY.md. Assumes nothing: these are definitions.
 use Rattle.state.specs.declared.types.Refusal.{Refusal}
-use Rattle.std.specs.Prelude.{ℕ, List, [], ◌∷◌, cond, ltb, length, take, Result}
+use Rattle.std.specs.Prelude.{ℕ, List, [], ◌∷◌, cond, ltb, length, take, Result, Ok, Err}
 use Rattle.runs.specs.Runs.{part_of, splice}
 use Rattle.seq.specs.Seq.{Reply, number, refused, zeros_says, index_says, jump_says}
 use Rattle.seq.specs.Seed.{seed_after}
@@ -12,8 +12,6 @@ use Rattle.state.specs.World.{After, after_call, before}
 use Rattle.volume.specs.Format as VolumeFormat
 use Rattle.volume.specs.Mount as VolumeMount
 use Rattle.reader.specs.declared.Located.{Located}
-use Rattle.reader.specs.declared.Located.TheVariants as L
-use Rattle.reader.specs.declared.Skipped.TheVariants as S
 use Rattle.reader.specs.Locate as ReaderLocate
 use Rattle.reader.specs.Read as ReaderRead
 use Rattle.reader.specs.Skip as ReaderSkip
@@ -65,13 +63,13 @@ on_volume Mount i m w p = done_by VolumeMount.mount i m w p
 
 -- ---- reading
 
-abbrev pub located : Located → List (List ℕ)
-located (L.At page count) = formed (ascii "at % %\n") (page ∷ count ∷ [])
-located (L.Refused why) = say.refused why
+abbrev pub located : Result Located Refusal → List (List ℕ)
+located (Ok at) = formed (ascii "at % %\n") (at.page ∷ at.headers ∷ [])
+located (Err why) = say.refused why
 
 abbrev pub skipped : Result ℕ Refusal → List (List ℕ)
-skipped (S.To seq) = formed (ascii "to %\n") (seq ∷ [])
-skipped (S.Refused why) = say.refused why
+skipped (Ok seq) = formed (ascii "to %\n") (seq ∷ [])
+skipped (Err why) = say.refused why
 
 -- a buffer, here the bytes that commands carry, and the output
 pub record Sight : Type 0 where
@@ -97,10 +95,10 @@ on_reading (Skip file seq n) i m b w p = sight b (puts p (skipped (ReaderSkip.sk
 
 -- ---- search
 
-abbrev pub sought : Answer → List (List ℕ)
-sought (A.Offer seq) = formed (ascii "offer %\n") (seq ∷ [])
-sought (A.End seq) = formed (ascii "end %\n") (seq ∷ [])
-sought (A.Refused why) = say.refused why
+abbrev pub sought : Result Answer Refusal → List (List ℕ)
+sought (Ok (A.Offer seq)) = formed (ascii "offer %\n") (seq ∷ [])
+sought (Ok (A.End seq)) = formed (ascii "end %\n") (seq ∷ [])
+sought (Err why) = say.refused why
 
 abbrev pub on_searching : Searching → List ℕ → List ℕ → World → Spot → Left
 on_searching (Search file) i m w p = told sought w p (after_call (λ v. SearchCalls.start v file) (lent i m w))

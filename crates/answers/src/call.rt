@@ -2,71 +2,60 @@
 ghost use Rattle.std.specs.Prelude.{◌≡◌};
 ghost use Rattle.seq.specs.Seq.{reply};
 ghost use Rattle.state.specs.World.{before};
-ghost use Rattle.state.specs.Values.{with_search};
 ghost use Rattle.script.specs.Text.{puts};
-ghost use Rattle.script.specs.Say.{done};
 ghost use Rattle.script.specs.Show.{shown};
 ghost use Rattle.answers.specs.World.{turned, left};
-ghost use Rattle.answers.specs.Calls.{told_by, on_volume, located, skipped, sight, read_of, on_reading, sought, on_searching, on_writing, on_files, replied, on_helper};
+ghost use Rattle.answers.specs.Calls.{on_volume, located, skipped, sight, read_of, on_reading, sought, on_searching, on_writing, on_files, replied, on_helper};
 
 use crate::world::World;
-use reader::{Located, Reader, Skipped};
+use reader::{Located, Reader};
 use script::command::{Files, Helper, Reading, Searching, Show, Volume, Writing};
 use script::text::Output;
 use script::{say, show};
-use search::SearchOut;
-use state::types::{Done, Out};
+use search::Answer;
+use seq::numbers::SeqError;
+use state::types::Refusal;
 
-fn said_located(output: &mut Output, found: Located)
+fn said_located(output: &mut Output, found: Result<Located, Refusal>)
     ensures { output.new ≡ puts output.old (located found) }
 {
     match found {
-        Located::At(page, count) => {
-            say::form(output, b"at % %\n", &[page as u64, u64::from(count)]);
+        Ok(at) => {
+            let numbers = [u64::from(at.page), u64::from(at.headers)];
+            say::form(output, b"at % %\n", &numbers);
         }
-        Located::Refused(why) => say::refused(output, why),
+        Err(why) => say::refused(output, why),
     }
 }
 
-fn said_skipped(output: &mut Output, answer: Skipped)
-    ensures { output.new ≡ puts output.old (skipped answer) }
+fn said_skipped(output: &mut Output, to: Result<u32, Refusal>)
+    ensures { output.new ≡ puts output.old (skipped to) }
 {
-    match answer {
-        Skipped::To(seq) => say::form(output, b"to %\n", &[u64::from(seq)]),
-        Skipped::Refused(why) => say::refused(output, why),
+    match to {
+        Ok(seq) => say::form(output, b"to %\n", &[u64::from(seq)]),
+        Err(why) => say::refused(output, why),
     }
 }
 
-fn said_searched(output: &mut Output, answer: search::Answer)
+fn said_searched(output: &mut Output, answer: Result<Answer, Refusal>)
     ensures { output.new ≡ puts output.old (sought answer) }
 {
     match answer {
-        search::Answer::Offer(seq) => say::form(output, b"offer %\n", &[u64::from(seq)]),
-        search::Answer::End(seq) => say::form(output, b"end %\n", &[u64::from(seq)]),
-        search::Answer::Refused(why) => say::refused(output, why),
+        Ok(Answer::Offer(seq)) => say::form(output, b"offer %\n", &[u64::from(seq)]),
+        Ok(Answer::End(seq)) => say::form(output, b"end %\n", &[u64::from(seq)]),
+        Err(why) => say::refused(output, why),
     }
 }
 
 impl World {
-    // What a call hands back is the world from then on.
-    fn told(&mut self, output: &mut Output, r: Out)
-        ensures { turned output.new self.new ≡ told_by self.old output.old (done r.answer) r.table r.state }
-    {
-        say::done(output, r.answer);
-        self.table = r.table;
-        self.state = r.state;
-    }
-
     pub fn on_volume(&mut self, image: &mut [u8], map: &mut [u8], output: &mut Output, what: Volume)
         ensures { left image.new map.new (turned output.new self.new) ≡ on_volume what image.old map.old self.old output.old }
     {
-        let table = self.table;
-        let state = self.state;
-        let r = match what {
-            Volume::Format => volume::format(image, map, table, state),
-            Volume::Mount => volume::mount(image, map, table, state),
+        let answer = match what {
+            Volume::Format => volume::format(image, map, &mut self.table, &mut self.state),
+            Volume::Mount => volume::mount(image, map, &mut self.table, &mut self.state),
         };
-        self.told(output, r);
+        say::done(output, answer);
     }
 
     // What is read goes by way of the lent bytes.
@@ -85,10 +74,10 @@ impl World {
             say::bad(output);
             return;
         }
-        let r = reader::read(image, map, self.table, self.state, from, &mut bytes[..n]);
-        match r.answer {
-            Done::Done => say::hex(output, b"bytes", &bytes[..n]),
-            Done::Refused(why) => say::refused(output, why),
+        let mut reader = from;
+        match reader::read(image, map, &self.table, &self.state, &mut reader, &mut bytes[..n]) {
+            Ok(()) => say::hex(output, b"bytes", &bytes[..n]),
+            Err(why) => say::refused(output, why),
         }
     }
 
@@ -102,41 +91,32 @@ impl World {
     )
         ensures { sight bytes.new output.new ≡ on_reading what image.now map.now bytes.old self.now output.old }
     {
-        let table = self.table;
-        let state = self.state;
         match what {
             Reading::Locate(file, seq) => {
-                said_located(output, reader::locate(image, map, table, state, file, seq));
+                let found = reader::locate(image, map, &self.table, &self.state, file, seq);
+                said_located(output, found);
             }
             Reading::Read(file, seq, n) => {
                 self.read(image, map, bytes, output, Reader { file, seq }, n);
             }
             Reading::Skip(file, seq, n) => {
                 let from = Reader { file, seq };
-                said_skipped(output, reader::skip(image, map, table, state, from, n));
+                said_skipped(output, reader::skip(image, map, &self.table, &self.state, from, n));
             }
         }
-    }
-
-    // The search is all of the state that its calls change.
-    fn searched(&mut self, output: &mut Output, r: SearchOut)
-        ensures { turned output.new self.new ≡ told_by self.old output.old (sought r.answer) self.old.table (with_search self.old.state r.search) }
-    {
-        said_searched(output, r.answer);
-        self.state.search = r.search;
     }
 
     pub fn on_searching(&mut self, image: &[u8], map: &[u8], output: &mut Output, what: Searching)
         ensures { left image.now map.now (turned output.new self.new) ≡ on_searching what image.now map.now self.old output.old }
     {
-        let table = self.table;
-        let state = self.state;
-        let r = match what {
-            Searching::Search(file) => search::search::search(image, map, table, state, file),
-            Searching::Left => search::search::left(image, map, state),
-            Searching::Right => search::search::right(image, map, state),
+        let answer = match what {
+            Searching::Search(file) => {
+                search::search::search(image, map, &self.table, &mut self.state, file)
+            }
+            Searching::Left => search::search::left(image, map, &mut self.state),
+            Searching::Right => search::search::right(image, map, &mut self.state),
         };
-        self.searched(output, r);
+        said_searched(output, answer);
     }
 
     pub fn on_writing(
@@ -149,9 +129,8 @@ impl World {
     )
         ensures { left image.new map.new (turned output.new self.new) ≡ on_writing what bytes.now image.old map.old self.old output.old }
     {
-        let table = self.table;
-        let state = self.state;
-        let r = match what {
+        let World { table, state, .. } = self;
+        let answer = match what {
             Writing::Open(file) => writer::open::open(image, map, table, state, file),
             Writing::Write(n) => {
                 writer::write::write(image, map, table, state, runs::part_of(bytes, 0, n))
@@ -160,41 +139,40 @@ impl World {
             Writing::Finish => writer::finish::finish(image, map, table, state),
             Writing::Discard => writer::finish::discard(image, map, table, state),
         };
-        self.told(output, r);
+        say::done(output, answer);
     }
 
     pub fn on_files(&mut self, image: &mut [u8], map: &mut [u8], output: &mut Output, what: Files)
         ensures { left image.new map.new (turned output.new self.new) ≡ on_files what image.old map.old self.old output.old }
     {
-        let table = self.table;
-        let state = self.state;
-        let r = match what {
+        let World { table, state, .. } = self;
+        let answer = match what {
             Files::Truncate(file, n) => {
                 transact::truncate::truncate(image, map, table, state, file, n)
             }
             Files::Rename(from, to) => transact::rename::rename(image, map, table, state, from, to),
             Files::Flags(file, flags) => {
-                transact::flags::changed(image, map, table, state, file, flags)
+                transact::flags::change_flags(image, map, table, state, file, flags)
             }
             Files::Commit => transact::commit::commit(image, map, table, state),
         };
-        self.told(output, r);
+        say::done(output, answer);
     }
 
     pub fn on_show(&self, image: &[u8], map: &[u8], output: &mut Output, what: Show)
         ensures { output.new ≡ puts output.old (shown image.now map.now self.now.table self.now.state what) }
     {
-        show::on_show(output, image, map, self.table, self.state, what);
+        show::on_show(output, image, map, &self.table, &self.state, what);
     }
 }
 
-fn said_number(output: &mut Output, answer: seq::numbers::Answer)
+fn said_number(output: &mut Output, answer: Result<u32, SeqError>)
     ensures { output.new ≡ puts output.old (replied (reply answer)) }
 {
     match answer {
-        seq::numbers::Answer::Number(n) => say::form(output, b"value %\n", &[u64::from(n)]),
-        seq::numbers::Answer::Range => say::refused(output, state::types::Refusal::Range),
-        seq::numbers::Answer::SeqEnd => say::refused(output, state::types::Refusal::SeqEnd),
+        Ok(n) => say::form(output, b"value %\n", &[u64::from(n)]),
+        Err(SeqError::Range) => say::refused(output, Refusal::Range),
+        Err(SeqError::SeqEnd) => say::refused(output, Refusal::SeqEnd),
     }
 }
 

@@ -5,7 +5,7 @@ ghost use Rattle.script.specs.Say.{formed, ok, bad, refused, done, hex};
 
 use crate::text;
 use crate::text::Output;
-use state::types::{Done, Refusal};
+use state::types::Refusal;
 
 // A form with numbers for its marks, each a %.
 pub fn form(output: &mut Output, form: &[u8], numbers: &[u64])
@@ -42,16 +42,16 @@ pub fn refused(output: &mut Output, why: Refusal)
     form(
         output,
         b"refused %\n",
-        &[u64::from(state::values::number_of(why))],
+        &[u64::from(u8::from(why))],
     );
 }
 
-pub fn done(output: &mut Output, answer: Done)
+pub fn done(output: &mut Output, answer: Result<(), Refusal>)
     ensures { output.new ≡ puts output.old (done answer) }
 {
     match answer {
-        Done::Done => ok(output),
-        Done::Refused(why) => refused(output, why),
+        Ok(()) => ok(output),
+        Err(why) => refused(output, why),
     }
 }
 

@@ -9,8 +9,8 @@ use crate::say;
 use crate::text::Output;
 use state::types::{FileRecord, Search, State, Table, Writer};
 
-fn show_writer(output: &mut Output, w: Writer)
-    ensures { output.new ≡ puts output.old (writer_shown w) }
+fn show_writer(output: &mut Output, w: &Writer)
+    ensures { output.new ≡ puts output.old (writer_shown w.now) }
 {
     if !w.active {
         output.put(b" writer none");
@@ -28,8 +28,8 @@ fn show_writer(output: &mut Output, w: Writer)
     say::form(output, b" writer %:%:%:%:%:%:%", &numbers);
 }
 
-fn show_search(output: &mut Output, q: Search)
-    ensures { output.new ≡ puts output.old (search_shown q) }
+fn show_search(output: &mut Output, q: &Search)
+    ensures { output.new ≡ puts output.old (search_shown q.now) }
 {
     if !q.active {
         output.put(b" search none\n");
@@ -45,8 +45,8 @@ fn show_search(output: &mut Output, q: Search)
     say::form(output, b" search %:%:%:%:%\n", &numbers);
 }
 
-fn show_mounted(output: &mut Output, s: State)
-    ensures { output.new ≡ puts output.old (mounted_shown s) }
+fn show_mounted(output: &mut Output, s: &State)
+    ensures { output.new ≡ puts output.old (mounted_shown s.now) }
 {
     let numbers = [
         s.pages as u64,
@@ -64,18 +64,16 @@ fn show_mounted(output: &mut Output, s: State)
     );
 }
 
-fn show_state(output: &mut Output, s: State)
-    ensures { output.new ≡ puts output.old (state_shown s) }
+fn show_state(output: &mut Output, s: &State)
+    ensures { output.new ≡ puts output.old (state_shown s.now) }
 {
     if !state::checks::is_mounted(s) {
         say::form(output, b"state unmounted seed %\n", &[u64::from(s.seed)]);
         return;
     }
-    let w = s.writer;
-    let q = s.search;
     show_mounted(output, s);
-    show_writer(output, w);
-    show_search(output, q);
+    show_writer(output, &s.writer);
+    show_search(output, &s.search);
 }
 
 fn show_links(output: &mut Output, links: [u16; 9])
@@ -85,11 +83,10 @@ fn show_links(output: &mut Output, links: [u16; 9])
     say::form(output, b" links %,%,%,%,%,%,%,%,%\n", &numbers);
 }
 
-fn show_file(output: &mut Output, i: usize, f: FileRecord)
-    ensures { output.new ≡ puts output.old (file_shown i f) }
+fn show_file(output: &mut Output, i: usize, f: &FileRecord)
+    ensures { output.new ≡ puts output.old (file_shown i f.now) }
 {
-    let h = f.header;
-    let links = h.skiplist;
+    let h = &f.header;
     let numbers = [
         i as u64,
         u64::from(f.first_seq),
@@ -106,14 +103,16 @@ fn show_file(output: &mut Output, i: usize, f: FileRecord)
         b"file % first % last % flags % dirty % page % seq % length % boundary %",
         &numbers,
     );
-    show_links(output, links);
+    show_links(output, h.skiplist);
 }
 
-fn show_table(output: &mut Output, table: Table)
-    ensures { output.new ≡ puts output.old (table_shown table) }
+fn show_table(output: &mut Output, table: &Table)
+    ensures { output.new ≡ puts output.old (table_shown table.now) }
 {
-    for (i, f) in table.files.iter().enumerate() {
-        show_file(output, i, *f);
+    let files: &[FileRecord] = &table.files;
+    prove!(files.len() == 8);
+    for (i, f) in files.iter().enumerate() {
+        show_file(output, i, f);
     }
 }
 
@@ -152,11 +151,11 @@ pub fn on_show(
     output: &mut Output,
     image: &[u8],
     map: &[u8],
-    table: Table,
-    state: State,
+    table: &Table,
+    state: &State,
     what: Show,
 )
-    ensures { output.new ≡ puts output.old (shown image.now map.now table state what) }
+    ensures { output.new ≡ puts output.old (shown image.now map.now table.now state.now what) }
 {
     match what {
         Show::State => show_state(output, state),

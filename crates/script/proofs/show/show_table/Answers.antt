@@ -8,12 +8,12 @@ use Rattle.script.proofs.show.show_table.Goals as goal
 
 pub loop-i-preserved : goal.loop-i-preserved
 loop-i-preserved c = let l = c.loop-i in
-    let n : length c.args.table.files ≡ 8 = search rules in
+    let n : length c.args.table.now.files ≡ 8 = c.if-prove.false in
     let k : l.i < 8 = omega arith in
-    lines_step (λ i. file_shown i (file_at c.args.table i)) l.i 8 _ _ _ k c.show_file.ensures l.invariant
+    lines_step (λ i. file_shown i (file_at c.args.table.now i)) l.i 8 _ _ _ k c.show_file.ensures l.invariant
 
 pub returns : goal.returns
 returns c = let l = c.loop-i in
-    let n : length c.args.table.files ≡ 8 = search rules in
+    let n : length c.args.table.now.files ≡ 8 = c.if-prove.false in
     let k : 8 ≤ l.i = omega arith in
-    sym (lines_end (λ i. file_shown i (file_at c.args.table i)) l.i 8 _ k) ∙ l.invariant
+    sym (lines_end (λ i. file_shown i (file_at c.args.table.now i)) l.i 8 _ k) ∙ l.invariant
