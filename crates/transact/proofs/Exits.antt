@@ -98,11 +98,6 @@ module _ (w : World) where
   abbrev tested : ℕ → Bool
   tested e = fits e (length (dirty_files w.table)) && rest_erased w.image w.state.meta_page e
 
-  -- the code's two tests
-  pub tested_is : (e n : ℕ) (a b x : Bool) → n ≡ length (dirty_files w.table) → a ≡ fits e n → b ≡ rest_erased w.image w.state.meta_page e
-      → (a && b) ≡ x → tested e ≡ x
-  tested_is e n a b x h f g t = rw (← h, ← f, ← g) t
-
   pub batch_fits : (e : ℕ) → log_end w.image w.state.meta_page ≡ Some e → tested e ≡ true
       → batch_of w ≡ committed w (batch_stores w.state.meta_page e (dirty_files w.table))
   batch_fits e h t = ap (appended_at w (dirty_files w.table)) h ∙ rw t
