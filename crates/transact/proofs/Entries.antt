@@ -1,4 +1,4 @@
--- A list of a field of a table's files. Assumes nothing.
+-- A list of a field of a table's files, and two files that are swapped. Assumes nothing.
 use mathlib.Core.Path.{◌≡◌, refl, sym, ◌∙◌, ap, subst}
 use mathlib.Core.List.{List, map}
 use Prim.Native.Nat.{ℕ, zero, suc, ◌+◌, ◌≤◌, ◌<◌}
@@ -8,11 +8,19 @@ use mathlib.Core.Bool.{Bool, true, false}
 use lib.Dec.{eqb}
 use lib.ListN.{length, get_or, set, length-map, length-set}
 use lib.Seq.{get_or-set_same, get_or-set_other, set-set, set_comm}
+use mir.Val.{Val}
+use denote.Laws.{Is}
 use denote.Param.Members.{Mut, Called}
 use Rattle.std.specs.Array.{IsFromFnResult, IsFromFnResultFrom}
 use Rattle.std.proofs.lemmas.List.{get_or-map, same_lists}
+use Rattle.state.specs.contracts.types.Table as T
 use Rattle.state.specs.declared.types.FileRecord.{FileRecord}
+use Rattle.state.specs.declared.types.Table.{Table}
 use Rattle.state.specs.Values.{absent}
+
+-- a table that a caller hands in has eight files
+pub table_eight : (t : Table) (vs : List Val) → Is T.the_row t vs → length t.files ≡ 8
+table_eight t vs p = p.1.1.0.1.0.1
 
 -- an array by a function that stays as it is, and gives at each index a value of that file
 module _ {F B : Type 0} (g : Mut F (ℕ × Unit {0}) B) (f : F) (ys : List B) (fs : List FileRecord) (v : FileRecord → B)

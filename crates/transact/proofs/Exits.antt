@@ -1,6 +1,6 @@
 -- One law for each exit of a call's definition. Assumes nothing.
 use Rattle.std.specs.Prelude.{Some, None, Err}
-use mathlib.Core.Path.{◌≡◌, refl, ◌∙◌, ap}
+use mathlib.Core.Path.{◌≡◌, refl, sym, ◌∙◌, ap}
 use mathlib.Core.Bool.{Bool, true, false, cond, ◌&&◌}
 use mathlib.Core.List.{List, []}
 use Prim.Native.Nat.{ℕ}
@@ -8,7 +8,8 @@ use native.Mathlib.Omega.{arith}
 use borrow.Author.Tests.{eq-eqb, ne_eqb}
 use lib.ListN.{length}
 use Rattle.seq.specs.Ids.{none}
-use Rattle.map.specs.Map.{alloc_of}
+use Rattle.page.specs.Store.{Store, ran}
+use Rattle.map.specs.Map.{alloc_of, released}
 use Rattle.metalog.specs.Log.{log_end, rest_erased, fits}
 use Rattle.metalog.specs.Batch.{batch_stores}
 use Rattle.chain.specs.Files.{last_of}
@@ -19,10 +20,10 @@ use Rattle.state.specs.declared.types.Table.{Table}
 use Rattle.state.specs.declared.types.State.{State}
 use Rattle.state.specs.declared.types.Refusal.{Refusal}
 use Rattle.state.specs.declared.types.Refusal.TheVariants.{Damaged, NoRoom, SeqEnd}
-use Rattle.state.specs.Values.{file_at, in_shape}
+use Rattle.state.specs.Values.{file_at, in_shape, closed}
 use Rattle.state.specs.Refusals.{Done, fine}
 use Rattle.state.specs.Checks.{checks}
-use Rattle.state.specs.World.{World, Outcome, after_call, refuse, after, yields, promised}
+use Rattle.state.specs.World.{World, Outcome, ended, after_call, refuse, after, yields, promised}
 use Rattle.state.proofs.Numbers.{promise_same}
 use Rattle.transact.specs.Truncate.{new_first, cut, unreached, held_all, changed_file, truncated_by, truncate_in, truncate}
 use Rattle.transact.specs.Commit.{dirty_files, committed, moved_to, moved, appended_at, commit_batch, commit}
@@ -98,11 +99,6 @@ module _ (w : World) where
   abbrev tested : ℕ → Bool
   tested e = fits e (length (dirty_files w.table)) && rest_erased w.image w.state.meta_page e
 
-  -- the code's two tests
-  pub tested_is : (e n : ℕ) (a b x : Bool) → n ≡ length (dirty_files w.table) → a ≡ fits e n → b ≡ rest_erased w.image w.state.meta_page e
-      → (a && b) ≡ x → tested e ≡ x
-  tested_is e n a b x h f g t = rw (← h, ← f, ← g) t
-
   pub batch_fits : (e : ℕ) → log_end w.image w.state.meta_page ≡ Some e → tested e ≡ true
       → batch_of w ≡ committed w (batch_stores w.state.meta_page e (dirty_files w.table))
   batch_fits e h t = ap (appended_at w (dirty_files w.table)) h ∙ rw t
@@ -122,6 +118,11 @@ module _ (w : World) where
       → moved w ≡ moved_to w (Some p)
   unfolding moved
   moved_page p h e = rw (ne_eqb w.state.meta_seq 4294967295 h, e)
+
+  -- what is there after a commit that did not move
+  pub committed_is : (call : World → Outcome Done) (l : List Store) (img m : List ℕ) (s : State) → call w ≡ committed w l
+      → img ≡ ran w.image l → m ≡ released w.map → s ≡ closed w.state → after fine img m w.table s ≡ after_call call w
+  committed_is call l img m s e a b c = rw (a, b, c) (sym (ap (ended w) e))
 
 -- ---- flags
 

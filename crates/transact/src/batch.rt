@@ -10,6 +10,7 @@ use page::MetaHeader;
 use state::types::Table;
 use std::array;
 
+// An array for each field, as the log takes them.
 fn files_of(table: &Table) -> Files
     ensures { result ≡ files_of table.now }
 {
@@ -20,12 +21,14 @@ fn files_of(table: &Table) -> Files
     }
 }
 
+// Which files are dirty.
 fn dirty_marks(table: &Table) -> [bool; 8]
     ensures { result ≡ map (λ f. f.dirty) table.now.files }
 {
     array::from_fn(|i| table.files[i].dirty)
 }
 
+// Which files are not empty.
 fn live_marks(table: &Table) -> [bool; 8]
     ensures { result ≡ map (λ f. not (is_empty f)) table.now.files }
 {

@@ -1,9 +1,8 @@
-// What calls make of a file's record.
-ghost use Rattle.std.specs.Prelude.{◌≡◌, ◌<◌};
-ghost use Rattle.state.specs.Values.{with_file, opened};
+// What a truncation makes of a file's record.
+ghost use Rattle.std.specs.Prelude.{◌≡◌};
 ghost use Rattle.transact.specs.Truncate.{new_first, emptied, cut};
 
-use state::types::{FileRecord, State, Table};
+use state::types::FileRecord;
 
 // first_seq advanced by the smaller of bytes and length.
 pub fn new_first(f: &FileRecord, bytes: usize) -> u32
@@ -37,14 +36,4 @@ pub fn cut(f: &FileRecord, first: u32) -> FileRecord
         first_seq: first,
         ..*f
     }
-}
-
-// A change of one file, which opens a transaction.
-#[tactic(auto, unfolding(state::specs::Values::with_file))]
-pub fn change(table: &mut Table, state: &mut State, i: usize, f: FileRecord)
-    requires { i < 8 }
-    ensures { (table.new ≡ with_file table.old i f) × (state.new ≡ opened state.old) }
-{
-    table.files[i] = f;
-    *state = state::values::open_transaction(*state);
 }

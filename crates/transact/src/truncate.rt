@@ -7,7 +7,7 @@ use crate::{files, walk};
 use state::types::{Refusal, State, Table};
 
 // Advances first_seq by the smaller of bytes and length. The whole walk is checked before anything changes.
-#[tactic(auto, unfolding(crate::specs::Truncate::truncate, crate::specs::Truncate::truncate_in), using(state::proofs::Laws::checks_pass))]
+#[tactic(auto, unfolding(crate::specs::Truncate::truncate, crate::specs::Truncate::truncate_in, state::specs::Values::with_file), using(state::proofs::Laws::checks_pass))]
 pub fn truncate(
     image: &[u8],
     map: &mut [u8],
@@ -26,14 +26,15 @@ pub fn truncate(
     let i = usize::from(file);
     let f = &table.files[i];
     if f.is_empty() {
-        files::change(table, state, i, files::emptied());
+        table.files[i] = files::emptied();
+        *state = state::values::open_transaction(*state);
         return Ok(());
     }
     let count = usize::from(state.page_count);
     let first = files::new_first(f, bytes);
     let edge = walk::edge_of(image, count, f, first).ok_or(Refusal::Damaged)?;
     walk::hold_unreached(image, map, count, f, first, edge);
-    let shorter = files::cut(f, first);
-    files::change(table, state, i, shorter);
+    table.files[i] = files::cut(f, first);
+    *state = state::values::open_transaction(*state);
     Ok(())
 }

@@ -6,6 +6,7 @@ use borrow.Author.Tests.{eqb-false}
 use Rattle.std.specs.Result.{result_ok}
 use Rattle.std.proofs.Common.{rules}
 use Rattle.state.specs.declared.types.Refusal.TheVariants.{Damaged}
+use Rattle.state.specs.Values.{with_file}
 use Rattle.state.specs.Refusals.{numbers, Done}
 use Rattle.state.specs.World.{Outcome, before, ended, in_numbers, yields}
 use Rattle.transact.proofs.Steps.{edge_says, edge_not}
@@ -26,6 +27,7 @@ returns-in_err-edge c =
     ap (λ (x : Done). yields x a.image.now a.map.now a.table.now a.state.now) r ∙ sym (ap (λ (o : Outcome Done). in_numbers numbers (ended w o)) d)
 
 pub returns : goal.returns
+unfolding with_file
 returns c =
     let a = c.args in
     let w = before a.image.now a.map.now a.table.now a.state.now in
@@ -35,5 +37,5 @@ returns c =
     (rw c.from-i.ensures at (eqb-false _ _ (sym c.is_empty.ensures ∙ c.if-is_empty.false)))
     (rw (c.from-i.ensures, c.from-count.ensures) at (edge_says _ _ _ _ _ (sym some ∙ c.edge_of.ensures)).0)
     in
-    rw (c.change-2.ensures.0, c.change-2.ensures.1, c.hold_unreached.ensures, c.cut-shorter.ensures, c.new_first-first.ensures, c.from-i.ensures, c.from-count.ensures)
+    rw (c.open_transaction-2.ensures, c.hold_unreached.ensures, c.cut.ensures, c.new_first-first.ensures, c.from-i.ensures, c.from-count.ensures)
     (sym (ap (λ (o : Outcome Done). in_numbers numbers (ended w o)) d))
