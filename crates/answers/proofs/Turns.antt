@@ -8,8 +8,8 @@ use native.Mathlib.Omega.{arith}
 use lib.ListN.{length, take, drop, drop_of_length-le}
 use lib.Seq.{take_all, take_at}
 use Rattle.runs.specs.Runs.{splice}
-use Rattle.state.specs.Refusals.{on_done}
-use Rattle.reader.specs.declared.ReadOut.{ReadOut}
+use Rattle.state.specs.Refusals.{on_done, Done}
+use Rattle.reader.specs.declared.Reader.{Reader}
 use Rattle.reader.specs.Read.{AfterRead, after_read, read_told}
 use Rattle.reader.proofs.Numbers.{read_same}
 use Rattle.script.specs.declared.command.Command.{Command}
@@ -63,9 +63,9 @@ pub back_part : (b o : List ℕ) (n : ℕ) → length o ≡ n → take n (o ++ d
 back_part b o n k = take_at o (drop n b) n k
 
 -- the bytes that a read leaves, with its answer
-pub read_left : (b o : List ℕ) (n : ℕ) → length o ≡ n → (p q : Spot) (r : ReadOut) (a : AfterRead) → read_told (after_read r o) ≡ read_told a
-    → q ≡ puts p (on_done r.answer say.refused (say.hex (ascii "bytes") o)) → sight (o ++ drop n b) q ≡ read_by b p a
-read_left b o n k p q r a e f = rw (back_splice b o n k, f) (ap (read_by b p) (read_same (after_read r o) a e))
+pub read_left : (b o : List ℕ) (n : ℕ) → length o ≡ n → (p q : Spot) (d : Done) (r : Reader) (a : AfterRead) → read_told (after_read d r o) ≡ read_told a
+    → q ≡ puts p (on_done d say.refused (say.hex (ascii "bytes") o)) → sight (o ++ drop n b) q ≡ read_by b p a
+read_left b o n k p q d r a e f = rw (back_splice b o n k, f) (ap (read_by b p) (read_same (after_read d r o) a e))
 
 -- ---- what was lent comes back
 
