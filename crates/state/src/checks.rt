@@ -7,7 +7,7 @@ ghost use Rattle.state.specs.Checks.{sizes, id_ok, writer_ok, search_ok, is_moun
 use crate::types::{Refusal, Search, State, Writer};
 
 // What no sequence number passes.
-const LIMIT: u32 = 4294967294;
+const LIMIT: u32 = seq::numbers::SEQ_LIMIT as u32;
 
 // Check 1, as format and mount make it.
 pub fn sizes_fit(image: usize, map: usize) -> bool

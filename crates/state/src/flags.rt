@@ -1,4 +1,4 @@
-// Flags: by value, and in place in the caller's table.
+// Flags, in place in the caller's table.
 #![tactic(auto, unfolding(crate::specs::Values::flagged, crate::specs::Values::with_flags, crate::specs::Values::with_file))]
 
 ghost use Rattle.std.specs.Prelude.{◌≡◌};
@@ -6,35 +6,21 @@ ghost use Rattle.state.specs.Values.{flagged, with_flags};
 
 use crate::types::{FileRecord, Table};
 
-// Flags stick only to files that are not empty, and mark dirty only if changed.
-fn record_flags(f: FileRecord, flags: u8) -> FileRecord
-    ensures { result ≡ flagged f flags }
+// Flags stick only to a file that is not empty, and mark it dirty only if changed.
+fn set_on(f: &mut FileRecord, flags: u8)
+    ensures { f.new ≡ flagged f.old flags }
 {
-    if f.is_empty() || f.flags == flags {
-        return f;
-    }
-    FileRecord {
-        dirty: true,
-        flags,
-        ..f
+    if !f.is_empty() && f.flags != flags {
+        f.flags = flags;
+        f.dirty = true;
     }
 }
 
-// The table with one file's flags changed, and the table where there is no such file.
-pub fn table_flags(table: Table, file: usize, flags: u8) -> Table
-    ensures { result ≡ with_flags table file flags }
-{
-    if 8 <= file {
-        return table;
-    }
-    let mut t = table;
-    t.files[file] = record_flags(t.files[file], flags);
-    t
-}
-
-// The same in place: the table is the caller's.
+// One file's flags. Where there is no such file the table stays.
 pub fn set_flags(table: &mut Table, file: usize, flags: u8)
     ensures { table.new ≡ with_flags table.old file flags }
 {
-    *table = table_flags(*table, file, flags);
+    if file < 8 {
+        set_on(&mut table.files[file], flags);
+    }
 }

@@ -1,10 +1,10 @@
 // Fixed values, and the changes of a state that several calls make.
-#![tactic(auto, unfolding(crate::specs::Values::empty_record, crate::specs::Values::empty_table, crate::specs::Values::no_writer, crate::specs::Values::no_search, crate::specs::Values::unmounted, crate::specs::Values::settled, crate::specs::Values::opened, crate::specs::Values::closed, crate::specs::Values::in_shape, crate::specs::Values::offset_in))]
+#![tactic(auto, unfolding(crate::specs::Values::empty_record, crate::specs::Values::empty_table, crate::specs::Values::no_writer, crate::specs::Values::no_search, crate::specs::Values::unmounted, crate::specs::Values::settled, crate::specs::Values::opened, crate::specs::Values::in_shape, crate::specs::Values::offset_in))]
 
 ghost use Rattle.std.specs.Prelude.{◌≡◌, ◌<◌};
 ghost use Rattle.page.specs.Page.{no_header};
 ghost use Rattle.state.specs.Refusals.{number};
-ghost use Rattle.state.specs.Values.{empty_record, empty_table, no_writer, no_search, unmounted, settled, opened, closed, in_shape, is_empty, offset_in};
+ghost use Rattle.state.specs.Values.{empty_record, empty_table, no_writer, no_search, unmounted, settled, opened, in_shape, is_empty, offset_in};
 
 use crate::types::{FileRecord, Refusal, Search, State, Table, Writer};
 use page::DataHeader;
@@ -118,24 +118,11 @@ pub fn settle(pages: u16, count: u16, meta: u16, seq: u32, cursor: u16, seed: u3
 }
 
 // A transaction opens: no search position stays on offer.
-pub fn open_transaction(state: State) -> State
-    ensures { result ≡ opened state }
+pub fn open_transaction(state: &mut State)
+    ensures { state.new ≡ opened state.old }
 {
-    State {
-        transaction: true,
-        search: no_search(),
-        ..state
-    }
-}
-
-// It ends.
-pub fn close_transaction(state: State) -> State
-    ensures { result ≡ closed state }
-{
-    State {
-        transaction: false,
-        ..state
-    }
+    state.transaction = true;
+    state.search = no_search();
 }
 
 impl FileRecord {

@@ -20,6 +20,6 @@ pub fn change_flags(
 {
     state::checks::check(image.len(), map.len(), state, state.writer.active, file)?;
     state::flags::set_flags(table, usize::from(file), flags);
-    *state = state::values::open_transaction(*state);
+    state::values::open_transaction(state);
     Ok(())
 }

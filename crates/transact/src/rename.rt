@@ -33,6 +33,6 @@ pub fn rename(
         return Err(Refusal::BadFile);
     }
     swap(table, usize::from(from), usize::from(to));
-    *state = state::values::open_transaction(*state);
+    state::values::open_transaction(state);
     Ok(())
 }

@@ -27,7 +27,7 @@ pub fn truncate(
     let f = &table.files[i];
     if f.is_empty() {
         table.files[i] = files::emptied();
-        *state = state::values::open_transaction(*state);
+        state::values::open_transaction(state);
         return Ok(());
     }
     let count = usize::from(state.page_count);
@@ -35,6 +35,6 @@ pub fn truncate(
     let edge = walk::edge_of(image, count, f, first).ok_or(Refusal::Damaged)?;
     walk::hold_unreached(image, map, count, f, first, edge);
     table.files[i] = files::cut(f, first);
-    *state = state::values::open_transaction(*state);
+    state::values::open_transaction(state);
     Ok(())
 }

@@ -41,8 +41,7 @@ fn finish_page(image: &mut [u8], map: &mut [u8], table: &mut Table, state: &mut 
     crate::staging::flush_header(image, w, header);
     crate::staging::mark_page(map, w.copied, map::HELD);
     grow(table, w, header);
-    state.transaction = true;
-    state.search = state::values::no_search();
+    state::values::open_transaction(state);
     state.writer = state::values::no_writer();
 }
 
