@@ -10,6 +10,7 @@ use Prim.Native.Nat.{ℕ, zero, suc, ◌≤◌, ◌<◌}
 use native.Mathlib.Omega.{arith}
 use borrow.Author.Tests.{ne_eqb, le-ltb}
 use lib.ListN.{length, get_or}
+use lib.Seq.{ext_get_or}
 use Rattle.seq.specs.Ids.{none}
 use Rattle.metalog.specs.declared.Files.{Files}
 use Rattle.chain.specs.Files.{last_of}
@@ -61,6 +62,11 @@ module _ (img : List ℕ) (count : ℕ) where
   line_at_lem t (suc (suc (suc (suc (suc (suc zero)))))) h = refl
   line_at_lem t (suc (suc (suc (suc (suc (suc (suc zero))))))) h = refl
   line_at_lem t (suc (suc (suc (suc (suc (suc (suc (suc i)))))))) h = absurd (omega arith)
+
+  -- eight lines of which each is its file's
+  pub lines_by : (t : Table) (l : List (Option FileLine)) → length l ≡ 8 → ((k : ℕ) → k < 8 → get_or l k no_line ≡ line_of img count (file_at t k)) → l ≡ lines_of img count t
+  unfolding lines_of
+  lines_by t l n e = ext_get_or no_line l (lines_of img count t) n (λ k h. let i : k < 8 = omega arith in e k i ∙ sym (line_at_lem t k i))
 
 -- ---- the whole
 

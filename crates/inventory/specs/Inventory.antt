@@ -64,6 +64,6 @@ listed_by img o (Ok u) = Ok (lines_of img o.state.page_count o.table)
 abbrev pub mounted : List ℕ → Outcome Done
 mounted img = mount (before img (replicate (length img / 256) 0) empty_table (unmounted 1))
 
--- up to 256 pages; more is refused 1
+-- up to 256 pages; more is BadSize
 unfoldable pub inventory_of : List ℕ → Inventory
 inventory_of img = cond (ltb 65536 (length img)) (refused_by BadSize) (listed_by img (mounted img) (mounted img).answer)

@@ -55,7 +55,6 @@ fn line_of(image: &[u8], count: usize, f: &FileRecord) -> Option<FileLine>
 }
 
 // All eight.
-#[tactic(auto, unfolding(crate::specs::Inventory::lines_of))]
 fn lines_of(image: &[u8], count: usize, t: &Table) -> [Option<FileLine>; 8]
     ensures { result ≡ lines_of image.now count t.now }
 {

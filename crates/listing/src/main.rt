@@ -30,7 +30,10 @@ fn print_files(rt: &impl Print, lines: [Option<FileLine>; 8]) -> io::Result<()> 
     Ok(())
 }
 
-fn print_inventory(rt: &impl Print, inventory: Result<[Option<FileLine>; 8], Refusal>) -> io::Result<()> {
+fn print_inventory(
+    rt: &impl Print,
+    inventory: Result<[Option<FileLine>; 8], Refusal>,
+) -> io::Result<()> {
     match inventory {
         Ok(lines) => print_files(rt, lines),
         Err(why) => {
