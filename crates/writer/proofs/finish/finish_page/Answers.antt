@@ -10,4 +10,4 @@ unfolding with_writer opened
 returns c =
     let a = c.args in
     let w = before a.image.now a.map.now a.table.now a.state.now in
-    finished_is w _ _ _ _ _ c.staged_header-header.ensures c.flush_header.ensures c.mark_page.ensures (c.grow.ensures) (rw (c.no_search-state.ensures, c.no_writer-state.ensures))
+    finished_is w _ _ _ _ _ c.staged_header-header.ensures c.flush_header.ensures c.mark_page.ensures (c.grow.ensures) (rw (c.open_transaction.ensures, c.no_writer-state.ensures))
