@@ -1,4 +1,5 @@
-// All calls for C and Rust: image and map are lent, table and state go in and come back by value; a search changes the state in place.
+// All calls for C and Rust: image and map are lent, table and state go in and come back by value; a search changes the state in place. Each
+// call is a function of its own, since C calls it by its name.
 #![tactic(auto, using(crate::proofs::Told::replied_is, crate::proofs::Told::read_is, crate::proofs::Told::sought_is))]
 
 ghost use Rattle.std.specs.Prelude.{◌≡◌};
@@ -43,7 +44,12 @@ pub extern "C" fn mv_empty_table() -> Table
 
 // Empties the image and mounts it.
 #[unsafe(no_mangle)]
-pub extern "C" fn mv_format(image: &mut [u8], map: &mut [u8], mut table: Table, mut state: State) -> Reply
+pub extern "C" fn mv_format(
+    image: &mut [u8],
+    map: &mut [u8],
+    mut table: Table,
+    mut state: State,
+) -> Reply
     ensures { Replied result image.new map.new (after_call format (before image.old map.old table state)) }
 {
     let answer = volume::format(image, map, &mut table, &mut state);
@@ -56,7 +62,12 @@ pub extern "C" fn mv_format(image: &mut [u8], map: &mut [u8], mut table: Table, 
 
 // Mounts an image as it is.
 #[unsafe(no_mangle)]
-pub extern "C" fn mv_mount(image: &[u8], map: &mut [u8], mut table: Table, mut state: State) -> Reply
+pub extern "C" fn mv_mount(
+    image: &[u8],
+    map: &mut [u8],
+    mut table: Table,
+    mut state: State,
+) -> Reply
     ensures { Replied result image.now map.new (after_call mount (before image.now map.old table state)) }
 {
     let answer = volume::mount(image, map, &mut table, &mut state);
@@ -133,7 +144,10 @@ pub extern "C" fn mv_seek(
     ensures { result ≡ skipped_reply (reader_at table file).seq (seek_offset (before image.now map.now table state) file offs) }
 {
     let new = reader::ask::reader_of(&table, file);
-    replies::skipped(reader::seek(image, map, &table, &state, file, offs), new.seq)
+    replies::skipped(
+        reader::seek(image, map, &table, &state, file, offs),
+        new.seq,
+    )
 }
 
 // Starts a search for a record of a file. The state is the caller's and is changed in place, as in the next call.
@@ -216,7 +230,12 @@ pub extern "C" fn mv_record_end(image: &[u8], map: &[u8], table: Table, mut stat
 
 // Stores what is staged and closes the writer.
 #[unsafe(no_mangle)]
-pub extern "C" fn mv_finish(image: &mut [u8], map: &mut [u8], mut table: Table, mut state: State) -> Reply
+pub extern "C" fn mv_finish(
+    image: &mut [u8],
+    map: &mut [u8],
+    mut table: Table,
+    mut state: State,
+) -> Reply
     ensures { Replied result image.new map.new (after_call finish (before image.old map.old table state)) }
 {
     let answer = writer::finish::finish(image, map, &mut table, &mut state);
@@ -302,7 +321,12 @@ pub extern "C" fn mv_flags(
 
 // Makes all changes since the last commit last.
 #[unsafe(no_mangle)]
-pub extern "C" fn mv_commit(image: &mut [u8], map: &mut [u8], table: Table, mut state: State) -> Reply
+pub extern "C" fn mv_commit(
+    image: &mut [u8],
+    map: &mut [u8],
+    table: Table,
+    mut state: State,
+) -> Reply
     ensures { Replied result image.new map.new (after_call commit (before image.old map.old table state)) }
 {
     let answer = transact::commit::commit(image, map, &table, &mut state);

@@ -1,4 +1,5 @@
-// The values that calls take and hand back. All of them are plain data: a caller may hand in any.
+// The values that calls take and change. All of them are plain data, as C has it: so flags and 65535 stand where Rust would have an Option,
+// the staged bytes beside their length, and a caller may hand in any.
 use page::DataHeader;
 
 // Rust's FileState: a file is empty exactly if last_page is none (65535).
