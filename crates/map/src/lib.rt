@@ -97,12 +97,13 @@ pub fn count_free(m: &[u8], count: usize) -> usize
 fn count_all(m: &[u8]) -> usize
     ensures { result ≡ free_count m.now }
 {
-    let whole = m.chunks_exact(128);
-    let mut n = usize::from(count_few(whole.remainder()));
-    for few in whole {
+    let mut n = 0;
+    let mut rest = m;
+    while let Some((few, after)) = rest.split_first_chunk::<128>() {
         n += usize::from(count_few(few));
+        rest = after;
     }
-    n
+    n + usize::from(count_few(rest))
 }
 
 fn count_few(m: &[u8]) -> u8
