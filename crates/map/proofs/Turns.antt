@@ -17,10 +17,6 @@ use Rattle.map.specs.Map.{used, first_free, alloc_of, leaves, allocated, is_free
 
 -- ---- a turn of the loops
 
--- the free pages from i on
-pub count_more : (m : List ℕ) (i : ℕ) → i < length m → free_count (drop i m) ≡ is_free (get_or m i 0) + free_count (drop (i + 1) m)
-count_more m i h = rw (add-one, drop-cons m i 0 h)
-
 -- what stands at the seam of a copy that has come so far
 pub at_seam : (s d : List ℕ) (i : ℕ) → i ≤ length s → i < length d → get_or (take i s ++ drop i d) i 0 ≡ get_or d i 0
 at_seam s d zero h k = refl
