@@ -7,13 +7,13 @@ use native.Mathlib.Nat.{le_of_suc-le-suc, not-suc-le-zero}
 use native.Mathlib.Omega.{arith}
 use native.Mathlib.Numerals.{add-one}
 use lib.ListN.{length, take, drop, get_or, set, length-take, length-drop, drop_of_length-le}
-use lib.Seq.{drop-cons, take_all, take-length}
+use lib.Seq.{take_all, take-length}
 use borrow.Author.Tests.{lt-ltb, le-ltb}
 use Rattle.map.proofs.Laws.{split}
 use Rattle.std.specs.Option.{unwrap_or, IfSome}
 use Rattle.std.specs.declared.option.Option.{Option}
 use Rattle.std.specs.declared.option.Option.TheVariants.{Some, None}
-use Rattle.map.specs.Map.{used, first_free, alloc_of, leaves, allocated, is_free, free_count}
+use Rattle.map.specs.Map.{used, first_free, alloc_of, leaves, allocated}
 
 -- ---- a turn of the loops
 
