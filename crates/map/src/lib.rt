@@ -94,7 +94,7 @@ pub fn count_free(m: &[u8], count: usize) -> usize
 }
 
 // The bytes are counted 128 at a time into a byte, so that the compiler counts 16 in one step. A `for` over `chunks(128)` took a
-// third longer, and one over `chunks_exact(128)` a fifth longer in the remainder.
+// third longer, and one over `chunks_exact(128)` a quarter longer on a remainder.
 fn count_all(m: &[u8]) -> usize
     ensures { result ≡ free_count m.now }
 {
