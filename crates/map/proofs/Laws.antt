@@ -79,8 +79,7 @@ count_split v zero m = omega arith
 count_split v (suc k) [] = refl
 count_split v (suc k) (x ∷ m) = let h = count_split v k m in omega arith
 
--- two maps, one behind the other
-pub count_append : (v : ℕ) (a b : List ℕ) → count_of v (a ++ b) ≡ count_of v a + count_of v b
+count_append : (v : ℕ) (a b : List ℕ) → count_of v (a ++ b) ≡ count_of v a + count_of v b
 count_append v [] b = omega arith
 count_append v (x ∷ a) b = let h = count_append v a b in omega arith
 

@@ -7,19 +7,15 @@ use native.Mathlib.Nat.{le_of_suc-le-suc, not-suc-le-zero}
 use native.Mathlib.Omega.{arith}
 use native.Mathlib.Numerals.{add-one}
 use lib.ListN.{length, take, drop, get_or, set, length-take, length-drop, drop_of_length-le}
-use lib.Seq.{drop-cons, take_all, take-length}
+use lib.Seq.{take_all, take-length}
 use borrow.Author.Tests.{lt-ltb, le-ltb}
 use Rattle.map.proofs.Laws.{split}
 use Rattle.std.specs.Option.{unwrap_or, IfSome}
 use Rattle.std.specs.declared.option.Option.{Option}
 use Rattle.std.specs.declared.option.Option.TheVariants.{Some, None}
-use Rattle.map.specs.Map.{used, first_free, alloc_of, leaves, allocated, is_free, free_count}
+use Rattle.map.specs.Map.{used, first_free, alloc_of, leaves, allocated}
 
 -- ---- a turn of the loops
-
--- the free pages from i on
-pub count_more : (m : List ℕ) (i : ℕ) → i < length m → free_count (drop i m) ≡ is_free (get_or m i 0) + free_count (drop (i + 1) m)
-count_more m i h = rw (add-one, drop-cons m i 0 h)
 
 -- what stands at the seam of a copy that has come so far
 pub at_seam : (s d : List ℕ) (i : ℕ) → i ≤ length s → i < length d → get_or (take i s ++ drop i d) i 0 ≡ get_or d i 0

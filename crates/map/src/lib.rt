@@ -93,16 +93,18 @@ pub fn count_free(m: &[u8], count: usize) -> usize
     count_all(&m[..n])
 }
 
-// The bytes are counted 128 at a time into a byte, so that the compiler counts 16 in one step.
+// The bytes are counted 128 at a time into a byte, so that the compiler counts 16 in one step. A `for` over `chunks(128)` took a
+// third longer, and one over `chunks_exact(128)` a quarter longer on a remainder.
 fn count_all(m: &[u8]) -> usize
     ensures { result ≡ free_count m.now }
 {
-    let whole = m.chunks_exact(128);
-    let mut n = usize::from(count_few(whole.remainder()));
-    for few in whole {
+    let mut n = 0;
+    let mut rest = m;
+    while let Some((few, after)) = rest.split_first_chunk::<128>() {
         n += usize::from(count_few(few));
+        rest = after;
     }
-    n
+    n + usize::from(count_few(rest))
 }
 
 fn count_few(m: &[u8]) -> u8

@@ -6,12 +6,11 @@ use mathlib.Core.Path.{◌≡◌, refl, sym, ap, ap₂, ◌∙◌}
 use mathlib.Core.List.{List, [], ◌∷◌, ◌++◌, append-nil, append_assoc}
 use mathlib.Core.Bool.{Bool, true, false, cond, ◌&&◌}
 use Rattle.std.specs.List.{list_all}
-use native.Mathlib.Nat.{add-zero, le_of_suc-le-suc, not-suc-le-zero, zero-add, suc-add, add_assoc, sub-zero, zero-sub, suc-sub-suc, div-div-eq-div-mul}
-use native.Mathlib.Numerals.{add-one}
+use native.Mathlib.Nat.{add-zero, zero-add, suc-add, add_assoc, sub-zero, zero-sub, suc-sub-suc, div-div-eq-div-mul}
 use native.Mathlib.Omega.{arith}
-use lib.ListN.{length, take, drop, get_or, set, replicate, length-append, length-take, length-drop, drop_of_length-le, get_or-eq_default}
+use lib.ListN.{length, take, drop, get_or, replicate, length-append, length-take, length-drop, drop_of_length-le, get_or-eq_default}
 use lib.Dec.{eqb}
-use lib.Seq.{get_or-drop, take_all, length-take-le, take-length, take-nil, take-take, drop-drop, take-add, drop_at, take-append-le, take-append-add, drop-cons, get_or-take}
+use lib.Seq.{get_or-drop, take_all, length-take-le, take-nil, take-take, drop-drop, take-add, drop_at, take-append-le, take-append-add, drop-cons, get_or-take}
 use borrow.Rule.Slice.PartMut.{put_mid}
 use borrow.Author.Tests.{le-leb, lt-leb}
 use Rattle.runs.specs.Runs.{part, part_of, splice, placed, le16, le32, all_erased}
@@ -24,11 +23,6 @@ cond_same false x = refl
 pub cond_by {ℓ} : {X : Type 0} {R : Type ℓ} (b : Bool) (x y z : X) → cond b x y ≡ z → (b ≡ true → x ≡ z → R) → (b ≡ false → y ≡ z → R) → R
 cond_by true x y z h f g = f refl h
 cond_by false x y z h f g = g refl h
-
-pub get_d_same : (n i v : ℕ) → get_or (replicate n v) i v ≡ v
-get_d_same zero i v = refl
-get_d_same (suc n) zero v = refl
-get_d_same (suc n) (suc i) v = get_d_same n i v
 
 -- ---- parts and splices
 

@@ -46,6 +46,7 @@ pub fn u16_at(s: &[u8], at: usize) -> u16
     }
 }
 
+// Made of two, so that one place says what the bytes past the end count as.
 pub fn u32_at(s: &[u8], at: usize) -> u32
     ensures { result ≡ le32 s.now at }
 {

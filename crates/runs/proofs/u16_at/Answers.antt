@@ -1,6 +1,6 @@
 -- `runs::u16_at` meets its contract.
 -- Assumes nothing.
-use Rattle.std.proofs.Common.{◌≡◌, ℕ, ◌+◌, ◌-◌, ◌≤◌, ◌<◌, length, get_or, drop, arith, sym, ap, ◌∙◌}
+use Rattle.std.proofs.Common.{◌≤◌, length, arith, sym, ap, ◌∙◌}
 use Rattle.runs.specs.Runs.{le16}
 use lib.ListN.{get_or-eq_default}
 use Rattle.runs.proofs.Laws.{le16_past, le16_here, rest_drop}
