@@ -3,74 +3,23 @@ use mathlib.Core.Path.{◌≡◌, refl, sym, ◌∙◌, ap, subst}
 use mathlib.Core.Bool.{Bool, true, false, cond, ◌||◌}
 use mathlib.Core.Logic.{◌⊎◌, inl, inr}
 use Prim.Native.Nat.{ℕ, ◌≤◌, ◌<◌}
-use borrow.Author.Tests.{le-ltb, lt-ltb, leb-true, leb-false, eqb-true, eqb-false}
+use borrow.Author.Tests.{leb-true, leb-false, eqb-true, eqb-false}
 use lib.Dec.{leb, eqb}
 use Rattle.seq.specs.Ids.{none}
 use Rattle.page.specs.Page.{Read, unreadable, readable, gives_back}
 use Rattle.page.proofs.Headers.{back_read, back_none}
 use Rattle.page.specs.declared.BackRead.{BackRead}
-use Rattle.std.proofs.lemmas.Option.{same_Some}
 use Rattle.chain.specs.declared.PagePointer.{PagePointer}
 use Rattle.chain.specs.declared.Place.{Place}
 use Rattle.std.specs.Prelude.{Some, None}
 use Rattle.chain.specs.declared.Step.{Step}
 use Rattle.chain.specs.declared.Step.TheVariants.{Stays, Reaches, Breaks}
 use Rattle.chain.specs.Links.{start}
-use Rattle.chain.specs.Steps.{Way, halt, lost, via, falls, back_rule, Stepped, stays, reaches, breaks, entered, stepped, lower_of, lower, step, at, damaged, Trace, stop, through, follow, along, go, trace, walk}
+use Rattle.chain.specs.Steps.{Way, halt, lost, via, falls, back_rule, Stepped, stays, reaches, breaks, entered, stepped, lower, step, at, damaged, Trace, stop, through, follow, along, go, trace, walk}
 use Rattle.chain.specs.Back.{place_of, wide, told_back, thinned, thin, walk_back}
-use Rattle.chain.proofs.Rules.{is_page_lem, back_falling}
+use Rattle.chain.proofs.Rules.{back_falling}
 use Rattle.chain.proofs.Traces.{stays_trace, breaks_trace, reaches_trace}
-use Rattle.chain.proofs.Steps.{lower_none, lower_outside, reached, back_stays, back_goes}
-
--- ---- reading a lower page
-
--- the test of an id, in one: none, or at or above count
-module _ (count : ℕ) (j : ℕ) (a : Bool) (e : a ≡ eqb j none) where
-  pub barred : a || leb count j ≡ true → (j ≡ none) ⊎ (count ≤ j)
-  barred = by a e
-    where
-      by : (b : Bool) → b ≡ eqb j none → b || leb count j ≡ true → (j ≡ none) ⊎ (count ≤ j)
-      by true q t = inl (eqb-true j none (sym q))
-      by false q t = inr (leb-true count j t)
-
-  pub passed : a || leb count j ≡ false → (j ≡ none → ⊥) × (j < count)
-  passed = by a e
-    where
-      by : (b : Bool) → b ≡ eqb j none → b || leb count j ≡ false → (j ≡ none → ⊥) × (j < count)
-      by true q t = absurd (subst (λ (x : Bool). cond x (Unit {0}) ⊥) t tt)
-      by false q t = (eqb-false j none (sym q), leb-false count j t)
-
-module _ (count : ℕ) (read : ℕ → Read) (s j : ℕ) where
-  pub lower_barred : (j ≡ none) ⊎ (count ≤ j) → lower count read s j ≡ unreadable
-  lower_barred (inl e) = lower_none count read s j e
-  lower_barred (inr h) = lower_outside count read s j h
-
-  -- where the page is there, and what a step back asks of its header
-  module _ (n : (j ≡ none → ⊥) × (j < count)) where
-    pub lower_back_none : None ≡ gives_back (read j) → None ≡ gives_back (lower count read s j)
-    unfolding lower gives_back
-    lower_back_none e = rw (is_page_lem count j n.0 n.1) (by (read j) e)
-      where
-        by : (a : Read) → None ≡ gives_back a → None ≡ gives_back (lower_of s a)
-        by unreadable q = refl
-        by (readable k) q = cc
-
-    module _ (x : BackRead) (e : Some x ≡ gives_back (read j)) where
-      pub lower_back_falls : x.seq < s → Some x ≡ gives_back (lower count read s j)
-      unfolding lower gives_back
-      lower_back_falls l = rw (is_page_lem count j n.0 n.1) (by (read j) e)
-        where
-          by : (a : Read) → Some x ≡ gives_back a → Some x ≡ gives_back (lower_of s a)
-          by unreadable q = cc
-          by (readable k) q = let m : k.seq < s = rw (← ap (λ (y : BackRead). y.seq) (same_Some _ _ q)) l in rw (lt-ltb k.seq s m) q
-
-      pub lower_back_high : s ≤ x.seq → None ≡ gives_back (lower count read s j)
-      unfolding lower gives_back
-      lower_back_high l = rw (is_page_lem count j n.0 n.1) (by (read j) e)
-        where
-          by : (a : Read) → Some x ≡ gives_back a → None ≡ gives_back (lower_of s a)
-          by unreadable q = cc
-          by (readable k) q = let m : s ≤ k.seq = rw (← ap (λ (y : BackRead). y.seq) (same_Some _ _ q)) l in rw (le-ltb k.seq s m)
+use Rattle.chain.proofs.Steps.{reached, back_stays, back_goes}
 
 -- ---- a step back
 

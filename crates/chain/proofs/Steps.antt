@@ -14,11 +14,10 @@ use lib.ListN.{length}
 use Rattle.seq.specs.Ids.{none, page_of, option_of}
 use Rattle.seq.specs.Seq.{index, level}
 use Rattle.seq.proofs.Laws.{level_below}
-use Rattle.page.specs.Page.{Read, unreadable, readable, gives}
+use Rattle.page.specs.Page.{Read, unreadable, readable, gives, HeadedLaws}
 use Rattle.page.proofs.Headers.{given_read, given_none}
 use Rattle.page.specs.declared.DataHeader.{DataHeader}
 use Rattle.chain.specs.declared.PagePointer.{PagePointer}
-use Rattle.std.proofs.lemmas.Option.{same_Some}
 use Rattle.chain.specs.declared.Step.{Step}
 use Rattle.chain.specs.declared.Step.TheVariants.{Stays, Reaches, Breaks}
 use Rattle.chain.specs.declared.Found.{Found}
@@ -53,32 +52,36 @@ module _ (count : ℕ) (read : ℕ → Read) (s j : ℕ) where
   unfolding lower
   lower_outside h = rw (outside_no_page count j h)
 
-  -- where the page is there, and what reading its header gives
-  module _ (n : j ≡ none → ⊥) (h : j < count) where
-    pub lower_missing : None ≡ gives (read j) → None ≡ gives (lower count read s j)
-    unfolding lower gives
+  -- where the page is there, by what is read of its header
+  module _ {H : Type 0} {reads : Read → Option H} {first : H → ℕ} (laws : HeadedLaws reads first) (n : j ≡ none → ⊥) (h : j < count) where
+    pub lower_missing : None ≡ reads (read j) → None ≡ reads (lower count read s j)
+    unfolding lower
     lower_missing e = rw (is_page_lem count j n h) (by (read j) e)
       where
-        by : (a : Read) → None ≡ gives a → None ≡ gives (lower_of s a)
-        by unreadable q = refl
-        by (readable k) q = cc
+        either : (k : DataHeader) → None ≡ reads (readable k) → (b : Bool) → None ≡ reads (cond b (readable k) unreadable)
+        either k q true = q
+        either k q false = laws.missing
 
-    module _ (x : DataHeader) (e : Some x ≡ gives (read j)) where
-      pub lower_falls : x.seq < s → Some x ≡ gives (lower count read s j)
-      unfolding lower gives
+        by : (a : Read) → None ≡ reads a → None ≡ reads (lower_of s a)
+        by unreadable q = q
+        by (readable k) q = either k q (ltb k.seq s)
+
+    module _ (x : H) (e : Some x ≡ reads (read j)) where
+      pub lower_falls : first x < s → Some x ≡ reads (lower count read s j)
+      unfolding lower
       lower_falls l = rw (is_page_lem count j n h) (by (read j) e)
         where
-          by : (a : Read) → Some x ≡ gives a → Some x ≡ gives (lower_of s a)
-          by unreadable q = cc
-          by (readable k) q = let m : k.seq < s = rw (← ap (λ (y : DataHeader). y.seq) (same_Some _ _ q)) l in rw (lt-ltb k.seq s m) q
+          by : (a : Read) → Some x ≡ reads a → Some x ≡ reads (lower_of s a)
+          by unreadable q = q
+          by (readable k) q = let m : k.seq < s = rw (← laws.starts x k q) l in rw (lt-ltb k.seq s m) q
 
-      pub lower_high : s ≤ x.seq → None ≡ gives (lower count read s j)
-      unfolding lower gives
+      pub lower_high : s ≤ first x → None ≡ reads (lower count read s j)
+      unfolding lower
       lower_high l = rw (is_page_lem count j n h) (by (read j) e)
         where
-          by : (a : Read) → Some x ≡ gives a → None ≡ gives (lower_of s a)
-          by unreadable q = cc
-          by (readable k) q = let m : s ≤ k.seq = rw (← ap (λ (y : DataHeader). y.seq) (same_Some _ _ q)) l in rw (le-ltb k.seq s m)
+          by : (a : Read) → Some x ≡ reads a → None ≡ reads (lower_of s a)
+          by unreadable q = laws.missing
+          by (readable k) q = let m : s ≤ k.seq = rw (← laws.starts x k q) l in rw (le-ltb k.seq s m) laws.missing
 
 -- ---- a step to a lower page
 

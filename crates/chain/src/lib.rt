@@ -3,14 +3,13 @@
 
 ghost use Rattle.std.specs.Prelude.{◌≡◌};
 ghost use Rattle.seq.specs.Seq.{level};
-ghost use Rattle.page.specs.Page.{gives, gives_back};
 ghost use Rattle.chain.specs.Links.{start, link, no_links, linked, links_after};
 ghost use Rattle.chain.specs.Steps.{read_at, lower, step, back_rule, seek};
 ghost use Rattle.chain.specs.Seek.{told, located};
 ghost use Rattle.chain.specs.Back.{place_of, wide, told_back, walk_back, reached_by};
 ghost use Rattle.chain.specs.Files.{last_of};
 
-use page::{BackRead, DataHeader};
+use page::{BackRead, DataHeader, Headed};
 use seq::ids::OptionPageID;
 use state::types::FileRecord;
 
@@ -81,32 +80,17 @@ pub fn links_after(p: &PagePointer, seq: u32) -> [u16; 9]
 
 // ---- a lower page
 
-// The header of page id, if that is a page below count and its seq is below start: what both kinds of step ask.
-fn lower(image: &[u8], count: usize, start: u32, id: u16) -> Option<DataHeader>
-    ensures { result ≡ gives (lower count (read_at image.now) start id) }
+// What is read of page id, if that is a page below count and its seq is below start: what both kinds of step ask.
+fn lower<H: Headed>(image: &[u8], count: usize, start: u32, id: u16) -> Option<H>
+    ensures { result ≡ H.reads (lower count (read_at image.now) start id) }
 {
     let at = OptionPageID::from_raw(id).into_option()?.index();
     if count <= at {
         return None;
     }
-    let header = page::header_at(image, at)?;
-    if header.seq < start {
+    let header = H::read_at(image, at)?;
+    if header.seq() < start {
         return Some(header);
-    }
-    None
-}
-
-// Of it what a step back asks.
-fn lower_back(image: &[u8], count: usize, start: u32, id: u16) -> Option<BackRead>
-    ensures { result ≡ gives_back (lower count (read_at image.now) start id) }
-{
-    let at = OptionPageID::from_raw(id).into_option()?.index();
-    if count <= at {
-        return None;
-    }
-    let read = page::back_at(image, at)?;
-    if read.seq < start {
-        return Some(read);
     }
     None
 }
@@ -131,7 +115,7 @@ pub fn back(image: &[u8], count: usize, p: Place, limit: u32) -> Step<Place>
     if (p.seq <= limit) | OptionPageID::from_raw(p.link).is_none() {
         return Step::Stays;
     }
-    match lower_back(image, count, p.seq, p.link) {
+    match lower::<BackRead>(image, count, p.seq, p.link) {
         Some(next) => Step::Reaches(Place {
             page_id: p.link,
             seq: next.seq,

@@ -1,6 +1,8 @@
 -- The pages of an image and what stands on them, by document 01, "Numbers" and "Layout".
 -- Assumes nothing.
-use Rattle.std.specs.Prelude.{ℕ, zero, suc, ◌+◌, ◌-◌, ◌*◌, ◌/◌, ◌≤◌, ◌<◌, ◌≡◌, List, [], ◌∷◌, Bool, Option, Some, None, cond, ◌&&◌, length, get_or, replicate, leb, ltb, eqb}
+use Rattle.std.specs.Prelude.{ℕ, zero, suc, ◌+◌, ◌-◌, ◌*◌, ◌/◌, ◌≤◌, ◌<◌, ◌≡◌, List, [], ◌∷◌, Bool, Option, Some, None, cond, ◌&&◌, length, get_or, replicate, leb, ltb, eqb, refl}
+use Rattle.std.proofs.Common.{ap}
+use Rattle.std.proofs.lemmas.Option.{same_Some}
 use Rattle.runs.specs.Runs.{part, le16, le32, by16, by32}
 use Rattle.page.specs.declared.DataHeader.{DataHeader}
 use Rattle.page.specs.declared.BackRead.{BackRead}
@@ -58,6 +60,19 @@ gives (readable h) = Some h
 unfoldable pub gives_back : Read → Option BackRead
 gives_back unreadable = None
 gives_back (readable h) = Some (record { seq = h.seq; link = get_or h.skiplist 0 0 })
+
+-- laws of what a step reads of a header: all of it, or what a step back asks
+pub record HeadedLaws {H : Type 0} (reads : Read → Option H) (start : H → ℕ) : Type 0 where
+  pub missing : None ≡ reads unreadable
+  pub starts : (x : H) (h : DataHeader) → Some x ≡ reads (readable h) → start x ≡ h.seq
+
+pub header_laws : HeadedLaws gives (λ (h : DataHeader). h.seq)
+unfolding gives
+header_laws = record { missing = refl; starts = λ x h e. ap (λ (y : DataHeader). y.seq) (same_Some _ _ e) }
+
+pub back_laws : HeadedLaws gives_back (λ (b : BackRead). b.seq)
+unfolding gives_back
+back_laws = record { missing = refl; starts = λ x h e. ap (λ (y : BackRead). y.seq) (same_Some _ _ e) }
 
 -- whether a page with this header holds the number n: seq ≤ n < seq + length
 unfoldable pub holds : DataHeader → ℕ → Bool

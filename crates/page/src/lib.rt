@@ -2,9 +2,9 @@
 // 256 p on. Every function is total: a page that the image has not is unreadable, and a store outside changes nothing.
 #![tactic(auto)]
 
-ghost use Rattle.std.specs.Prelude.{◌≡◌, ◌+◌, ◌*◌, ◌<◌};
+ghost use Rattle.std.specs.Prelude.{◌≡◌, ◌+◌, ◌*◌, ◌<◌, ℕ, Option};
 ghost use Rattle.runs.specs.Runs.{le16, part_of};
-ghost use Rattle.page.specs.Page.{page_of, begins, pair_reads, fields, fields_of, header_of, gives, gives_back, meta_of, pairs, header_bytes, meta_bytes};
+ghost use Rattle.page.specs.Page.{Read, page_of, begins, pair_reads, fields, fields_of, header_of, gives, gives_back, HeadedLaws, header_laws, back_laws, meta_of, pairs, header_bytes, meta_bytes};
 ghost use Rattle.page.specs.Store.{erase, program, stored, ran, data_stores, meta_store};
 
 use std::array;
@@ -231,6 +231,54 @@ pub fn back_at(image: &[u8], p: usize) -> Option<BackRead>
     ensures { result ≡ gives_back (header_of (page_of image.now p)) }
 {
     PageView::new(image, p).back()
+}
+
+// ---- what a step reads of a header: all of it, or what a step back asks
+
+pub trait Headed: Copy {
+    ghost reads: { Read → Option Self };
+
+    ghost start: { Self → ℕ };
+
+    ghost laws: { HeadedLaws reads start };
+
+    fn read_at(image: &[u8], p: usize) -> Option<Self>
+        ensures { result ≡ reads (header_of (page_of image.now p)) };
+
+    fn seq(&self) -> u32
+        ensures { result ≡ start self.now };
+}
+
+impl Headed for DataHeader {
+    ghost reads = { gives };
+
+    ghost start = { λ h. h.seq };
+
+    ghost laws = { header_laws };
+
+    fn read_at(image: &[u8], p: usize) -> Option<DataHeader> {
+        header_at(image, p)
+    }
+
+    fn seq(&self) -> u32 {
+        self.seq
+    }
+}
+
+impl Headed for BackRead {
+    ghost reads = { gives_back };
+
+    ghost start = { λ b. b.seq };
+
+    ghost laws = { back_laws };
+
+    fn read_at(image: &[u8], p: usize) -> Option<BackRead> {
+        back_at(image, p)
+    }
+
+    fn seq(&self) -> u32 {
+        self.seq
+    }
 }
 
 // ---- parts of a page, which are parts of the image

@@ -17,8 +17,8 @@ returns-then-p-limit c = back_told_stays _ _ _ _ _ (is_none (goal.at.returns-the
 
 pub returns-in-Some : goal.returns-in-Some
 returns-in-Some c =
-    back_told_reaches _ _ _ _ _ (is_none (goal.at.returns-in-Some c).After-is_none) c.if-p-limit.false _ (sym c.in-Some.is ∙ c.lower_back.ensures)
+    back_told_reaches _ _ _ _ _ (is_none (goal.at.returns-in-Some c).After-is_none) c.if-p-limit.false _ (sym c.in-Some.is ∙ c.lower.ensures)
 
 pub returns-in-None : goal.returns-in-None
 returns-in-None c =
-    back_told_breaks _ _ _ _ _ (is_none (goal.at.returns-in-None c).After-is_none) c.if-p-limit.false (sym c.in-None.is ∙ c.lower_back.ensures)
+    back_told_breaks _ _ _ _ _ (is_none (goal.at.returns-in-None c).After-is_none) c.if-p-limit.false (sym c.in-None.is ∙ c.lower.ensures)
