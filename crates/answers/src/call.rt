@@ -75,7 +75,14 @@ impl World {
             return;
         }
         let mut reader = from;
-        match reader::read(image, map, &self.table, &self.state, &mut reader, &mut bytes[..n]) {
+        match reader::read(
+            image,
+            map,
+            &self.table,
+            &self.state,
+            &mut reader,
+            &mut bytes[..n],
+        ) {
             Ok(()) => say::hex(output, b"bytes", &bytes[..n]),
             Err(why) => say::refused(output, why),
         }
@@ -101,7 +108,10 @@ impl World {
             }
             Reading::Skip(file, seq, n) => {
                 let from = Reader { file, seq };
-                said_skipped(output, reader::skip(image, map, &self.table, &self.state, from, n));
+                said_skipped(
+                    output,
+                    reader::skip(image, map, &self.table, &self.state, from, n),
+                );
             }
         }
     }

@@ -39,11 +39,7 @@ pub fn bad(output: &mut Output)
 pub fn refused(output: &mut Output, why: Refusal)
     ensures { output.new ≡ puts output.old (refused why) }
 {
-    form(
-        output,
-        b"refused %\n",
-        &[u64::from(u8::from(why))],
-    );
+    form(output, b"refused %\n", &[u64::from(u8::from(why))]);
 }
 
 pub fn done(output: &mut Output, answer: Result<(), Refusal>)
