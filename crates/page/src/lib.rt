@@ -277,7 +277,8 @@ impl Headed for BackRead {
     }
 
     fn seq(&self) -> u32 {
-        self.seq
+        let BackRead { seq, .. } = *self;
+        seq
     }
 }
 

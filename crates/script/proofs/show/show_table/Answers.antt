@@ -1,6 +1,6 @@
 -- `script::show::show_table` meets its contract.
 -- Assumes nothing.
-use Rattle.std.proofs.Common.{◌≡◌, ◌<◌, ◌≤◌, length, sym, ◌∙◌, arith, rules}
+use Rattle.std.proofs.Common.{◌≡◌, ◌<◌, ◌≤◌, length, sym, ◌∙◌, arith}
 use Rattle.state.specs.Values.{file_at}
 use Rattle.script.specs.Show.{file_shown}
 use Rattle.script.proofs.Pieces.{lines_step, lines_end}
