@@ -80,6 +80,8 @@ pub fn links_after(p: &PagePointer, seq: u32) -> [u16; 9]
 
 // ---- a lower page
 
+// Image and count go side by side here and above: behind a struct that held the reference each clause would read `p.entry.image.now`.
+
 // What is read of page id, if that is a page below count and its seq is below start: what both kinds of step ask.
 fn lower<H: Headed>(image: &[u8], count: usize, start: u32, id: u16) -> Option<H>
     ensures { result ≡ H.reads (lower count (read_at image.now) start id) }
