@@ -1,4 +1,4 @@
-// Page ids. 65535 is never a page: raw ids that may be none are an OptionPageID, and become a PageID only through a test.
+// Page ids. 65535 is never a page: a raw id, which may be none, becomes a PageID through a test.
 ghost use Rattle.std.specs.Prelude.{◌≡◌, not, eqb};
 ghost use Rattle.seq.specs.Ids.{none, page_of, raw_of, option_of};
 
@@ -10,7 +10,7 @@ pub struct PageID {
     pub raw: u16,
 }
 
-// A page or none, as two bytes hold it: the form in which headers and C have it.
+// A page or none, as two bytes hold it.
 #[derive(Clone, Copy, Debug, PartialEq, Eq)]
 pub struct OptionPageID {
     pub raw: u16,

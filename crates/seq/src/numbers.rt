@@ -24,7 +24,7 @@ fn top_bit(x: u32) -> u32
     requires { 0 < x }
     ensures { TopBit x result }
 {
-    31 - x.leading_zeros()
+    x.ilog2()
 }
 
 fn zeros_between(a: u32, b: u32) -> u32

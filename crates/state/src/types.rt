@@ -1,5 +1,6 @@
 // The values that calls take and change. All of them are plain data, as C has it: so flags and 65535 stand where Rust would have an Option,
-// the staged bytes beside their length, and a caller may hand in any.
+// the staged bytes beside their length, and a caller may hand in any. A call takes image, map, table and state apart, since C lends each by
+// itself and the call says by `&` or `&mut` which of them it may change.
 use page::DataHeader;
 
 // Rust's FileState: a file is empty exactly if last_page is none (65535).
@@ -78,19 +79,19 @@ pub struct State {
     pub search: Search,
 }
 
-// Why a call did nothing. Its number, as C and scripts have it, is `u8::from`.
+// Why a call did nothing, with its number, as C and scripts have it.
 #[derive(Clone, Copy, Debug, PartialEq, Eq)]
 pub enum Refusal {
-    BadSize,
-    NotMounted,
-    Busy,
-    BadFile,
-    Damaged,
-    Eof,
-    Short,
-    NoRoom,
-    SeqEnd,
-    NoSearch,
-    Gone,
-    Range,
+    BadSize = 1,
+    NotMounted = 2,
+    Busy = 3,
+    BadFile = 4,
+    Damaged = 5,
+    Eof = 6,
+    Short = 7,
+    NoRoom = 8,
+    SeqEnd = 9,
+    NoSearch = 10,
+    Gone = 11,
+    Range = 12,
 }

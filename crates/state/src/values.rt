@@ -1,13 +1,15 @@
 // Fixed values, and the changes of a state that several calls make.
 #![tactic(auto, unfolding(crate::specs::Values::empty_record, crate::specs::Values::empty_table, crate::specs::Values::no_writer, crate::specs::Values::no_search, crate::specs::Values::unmounted, crate::specs::Values::settled, crate::specs::Values::opened, crate::specs::Values::in_shape, crate::specs::Values::offset_in))]
 
-ghost use Rattle.std.specs.Prelude.{◌≡◌, ◌<◌};
+ghost use Rattle.std.specs.Prelude.{◌≡◌, ◌<◌, Err};
+ghost use Rattle.seq.specs.Seq.{reply, refused};
 ghost use Rattle.page.specs.Page.{no_header};
 ghost use Rattle.state.specs.Refusals.{number};
 ghost use Rattle.state.specs.Values.{empty_record, empty_table, no_writer, no_search, unmounted, settled, opened, in_shape, is_empty, offset_in};
 
 use crate::types::{FileRecord, Refusal, Search, State, Table, Writer};
 use page::DataHeader;
+use seq::numbers::SeqError;
 
 // No record starts on a page whose header has this boundary.
 pub const NO_BOUNDARY: u16 = 65535;
@@ -166,19 +168,17 @@ impl From<Refusal> for u8 {
     ghost from_gives = { λ why result. result ≡ number why };
 
     fn from(why: Refusal) -> u8 {
+        why as u8
+    }
+}
+
+impl From<SeqError> for Refusal {
+    ghost from_gives = { λ why result. reply (Err why) ≡ refused (number result) };
+
+    fn from(why: SeqError) -> Refusal {
         match why {
-            Refusal::BadSize => 1,
-            Refusal::NotMounted => 2,
-            Refusal::Busy => 3,
-            Refusal::BadFile => 4,
-            Refusal::Damaged => 5,
-            Refusal::Eof => 6,
-            Refusal::Short => 7,
-            Refusal::NoRoom => 8,
-            Refusal::SeqEnd => 9,
-            Refusal::NoSearch => 10,
-            Refusal::Gone => 11,
-            Refusal::Range => 12,
+            SeqError::Range => Refusal::Range,
+            SeqError::SeqEnd => Refusal::SeqEnd,
         }
     }
 }
