@@ -1,6 +1,7 @@
 -- What the exits of the code's steps come to, over plain values. Assumes nothing.
 use Rattle.std.specs.Prelude.{Option, Some, None}
 use Rattle.seq.specs.declared.ids.PageID.{PageID}
+use Rattle.std.proofs.lemmas.Option.{same_Some}
 use mathlib.Core.Path.{◌≡◌, refl, sym, ◌∙◌, ap, subst}
 use mathlib.Core.Bool.{Bool, true, false, cond}
 use mathlib.Core.Logic.{◌⊎◌, inl, inr}
@@ -22,9 +23,9 @@ use Rattle.chain.specs.declared.Step.{Step}
 use Rattle.chain.specs.declared.Step.TheVariants.{Stays, Reaches, Breaks}
 use Rattle.chain.specs.declared.Found.{Found}
 use Rattle.chain.specs.Links.{start, link}
-use Rattle.chain.specs.Steps.{lost, via, is_page, towards, Rule, seek_rule, back_rule, Stepped, stays, reaches, breaks, entered, stepped, lower_of, lower, step, at, damaged, Trace, stop, through, trace}
+use Rattle.chain.specs.Steps.{lost, via, is_page, page_in, towards, Rule, seek_rule, back_rule, Stepped, stays, reaches, breaks, entered, stepped, lower_of, lower, step, at, damaged, Trace, stop, through, trace}
 use Rattle.chain.specs.Seek.{told, located_by, located}
-use Rattle.chain.proofs.Rules.{none_no_page, outside_no_page, is_page_lem, seek_asks, back_asks, seek_here, seek_on, back_here, back_none, back_on}
+use Rattle.chain.proofs.Rules.{seek_asks, back_asks, seek_here, seek_on, back_here, back_none, back_on}
 
 -- ---- reading a lower page
 
@@ -41,22 +42,33 @@ module _ (o : Option PageID) {x j : ℕ} (e : o ≡ option_of x) (r : x ≡ j) w
       by true t = eqb-true j none t
       by false t = (refl, eqb-false j none t)
 
-module _ (count : ℕ) (read : ℕ → Read) (s j : ℕ) where
-  -- none is no page
-  pub lower_none : j ≡ none → lower count read s j ≡ unreadable
-  unfolding lower
-  lower_none e = rw (none_no_page count j e)
+-- what the page of an id shows
+module _ (count j : ℕ) where
+  pub in_page : (x : ℕ) → Some x ≡ page_in count j → (x ≡ j) × (is_page count j ≡ true)
+  in_page x = by (is_page count j)
+    where
+      by : (b : Bool) → Some x ≡ cond b (Some j) None → (x ≡ j) × (b ≡ true)
+      by true e = (same_Some _ _ e, refl)
+      by false e = cc
 
-  -- nor is an id at or above count
-  pub lower_outside : count ≤ j → lower count read s j ≡ unreadable
+  pub in_none : None ≡ page_in count j → is_page count j ≡ false
+  in_none = by (is_page count j)
+    where
+      by : (b : Bool) → None ≡ cond b (Some j) None → b ≡ false
+      by true e = cc
+      by false e = refl
+
+module _ (count : ℕ) (read : ℕ → Read) (s j : ℕ) where
+  -- an id that is no page
+  pub lower_none : is_page count j ≡ false → lower count read s j ≡ unreadable
   unfolding lower
-  lower_outside h = rw (outside_no_page count j h)
+  lower_none e = rw e
 
   -- where the page is there, by what is read of its header
-  module _ {H : Type 0} {reads : Read → Option H} {first : H → ℕ} (laws : HeadedLaws reads first) (n : j ≡ none → ⊥) (h : j < count) where
+  module _ {H : Type 0} {reads : Read → Option H} {first : H → ℕ} (laws : HeadedLaws reads first) (p : is_page count j ≡ true) where
     pub lower_missing : None ≡ reads (read j) → None ≡ reads (lower count read s j)
     unfolding lower
-    lower_missing e = rw (is_page_lem count j n h) (by (read j) e)
+    lower_missing e = rw p (by (read j) e)
       where
         either : (k : DataHeader) → None ≡ reads (readable k) → (b : Bool) → None ≡ reads (cond b (readable k) unreadable)
         either k q true = q
@@ -69,7 +81,7 @@ module _ (count : ℕ) (read : ℕ → Read) (s j : ℕ) where
     module _ (x : H) (e : Some x ≡ reads (read j)) where
       pub lower_falls : first x < s → Some x ≡ reads (lower count read s j)
       unfolding lower
-      lower_falls l = rw (is_page_lem count j n h) (by (read j) e)
+      lower_falls l = rw p (by (read j) e)
         where
           by : (a : Read) → Some x ≡ reads a → Some x ≡ reads (lower_of s a)
           by unreadable q = q
@@ -77,7 +89,7 @@ module _ (count : ℕ) (read : ℕ → Read) (s j : ℕ) where
 
       pub lower_high : s ≤ first x → None ≡ reads (lower count read s j)
       unfolding lower
-      lower_high l = rw (is_page_lem count j n h) (by (read j) e)
+      lower_high l = rw p (by (read j) e)
         where
           by : (a : Read) → Some x ≡ reads a → None ≡ reads (lower_of s a)
           by unreadable q = laws.missing

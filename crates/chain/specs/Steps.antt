@@ -1,6 +1,6 @@
 -- Stepping from page to page: the rule that says where to, one step, and the path of many. Document 01, "Links" and "Mount".
 -- Assumes nothing: these are definitions.
-use Rattle.std.specs.Prelude.{Bool, cond, ◌&&◌, not, List, [], ◌∷◌, ℕ, zero, suc, leb, ltb, eqb}
+use Rattle.std.specs.Prelude.{Bool, Option, Some, None, cond, ◌&&◌, not, List, [], ◌∷◌, ℕ, zero, suc, leb, ltb, eqb}
 use Rattle.seq.specs.Ids.{none}
 use Rattle.seq.specs.Seq.{index}
 use Rattle.page.specs.Page.{Read, unreadable, readable, page_of, header_of}
@@ -21,6 +21,10 @@ pub data Way : Type 0 where
 -- an id that is none, or outside page_count, is no page
 unfoldable pub is_page : ℕ → ℕ → Bool
 is_page count j = not (eqb j none) && ltb j count
+
+-- the page of an id
+abbrev pub page_in : ℕ → ℕ → Option ℕ
+page_in count j = cond (is_page count j) (Some j) None
 
 unfoldable pub towards : ℕ → ℕ → Way
 towards count j = cond (is_page count j) (via j) lost

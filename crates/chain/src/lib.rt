@@ -4,13 +4,13 @@
 ghost use Rattle.std.specs.Prelude.{◌≡◌};
 ghost use Rattle.seq.specs.Seq.{level};
 ghost use Rattle.chain.specs.Links.{start, link, no_links, linked, links_after};
-ghost use Rattle.chain.specs.Steps.{read_at, lower, step, back_rule, seek};
+ghost use Rattle.chain.specs.Steps.{read_at, page_in, lower, step, back_rule, seek};
 ghost use Rattle.chain.specs.Seek.{told, located};
 ghost use Rattle.chain.specs.Back.{place_of, wide, told_back, walk_back, reached_by};
 ghost use Rattle.chain.specs.Files.{last_of};
 
 use page::{BackRead, DataHeader, Headed};
-use seq::ids::OptionPageID;
+use seq::ids::{OptionPageID, PageID};
 use state::types::FileRecord;
 
 // A page of a file with its header.
@@ -28,7 +28,8 @@ pub struct Place {
     pub link: u16,
 }
 
-// What a step from a page comes to: it is the last of the walk, another page is reached, or one should be and is not.
+// What a step from a page comes to: it is the last of the walk, another page is reached, or one should be and is not. Each has a name: of a
+// Result<Option<P>, _> the last page of a walk would be an Ok(None).
 #[derive(Clone, Copy, Debug, PartialEq, Eq)]
 pub enum Step<P> {
     Stays,
@@ -80,16 +81,22 @@ pub fn links_after(p: &PagePointer, seq: u32) -> [u16; 9]
 
 // ---- a lower page
 
-// Image and count go side by side here and above: behind a struct that held the reference each clause would read `p.entry.image.now`.
+// image and count are two parameters here and above, and no struct: each call would have to make it of its image and its state's
+// page_count, and a clause would say `pages.now.image` for `image.now`.
+
+// The page of an id, if it is one below count.
+pub fn page_at(id: u16, count: usize) -> Option<usize>
+    ensures { result ≡ page_in count id }
+{
+    let at = PageID::from_raw(id)?.index();
+    if at < count { Some(at) } else { None }
+}
 
 // What is read of page id, if that is a page below count and its seq is below start: what both kinds of step ask.
 fn lower<H: Headed>(image: &[u8], count: usize, start: u32, id: u16) -> Option<H>
     ensures { result ≡ H.reads (lower count (read_at image.now) start id) }
 {
-    let at = OptionPageID::from_raw(id).into_option()?.index();
-    if count <= at {
-        return None;
-    }
+    let at = page_at(id, count)?;
     let header = H::read_at(image, at)?;
     if header.seq() < start {
         return Some(header);

@@ -8,7 +8,7 @@ ghost use Rattle.search.specs.Told.{offer_on, told, Says, named, aimed, walked};
 
 use crate::search::Stand;
 use page::DataHeader;
-use seq::ids::{NONE, OptionPageID};
+use seq::ids::NONE;
 use state::values::NO_BOUNDARY;
 
 // A position: its page's seq and links, the record's start, and Rust's curr_high.
@@ -20,7 +20,7 @@ pub struct Offer {
     pub high: u32,
 }
 
-// Where the hunt stands: an offer with left as it is then, the end, or Damaged.
+// Where the hunt stands: an offer with left as it is then, the end, or Damaged. Each has a name, as a step of a chain has.
 #[derive(Clone, Copy, Debug, PartialEq, Eq)]
 pub enum Hunted {
     Offered { left: u32, offer: Offer },
@@ -117,12 +117,7 @@ fn seen_on(left: u32, target: u32, limit: u32, h: &DataHeader) -> Seen
 fn header_at(image: &[u8], count: usize, id: u16) -> Option<DataHeader>
     ensures { result ≡ gives (named count (read_at image.now) id) }
 {
-    let at = OptionPageID::from_raw(id).into_option()?.index();
-    if at < count {
-        page::header_at(image, at)
-    } else {
-        None
-    }
+    page::header_at(image, chain::page_at(id, count)?)
 }
 
 // ---- a level
