@@ -27,7 +27,7 @@ use Rattle.state.proofs.Laws.{MountedState, Passed, writer_says}
 use Rattle.writer.specs.Staging.{previous_of, staged_header, flush_stores, record_ended, space, pages_for, too_few}
 use Rattle.writer.specs.Write.{write_from, begun, written_as, write_in, write, record_end}
 use Rattle.writer.specs.Finish.{marked, grown, finished, Back, lost, pages, back_from, discarded_by, discard}
-use Rattle.writer.specs.Inner.{Ends, Sound, may_write, unbroken, freed_by}
+use Rattle.writer.specs.Inner.{open_only, Ends, Sound, may_write, unbroken, freed_by}
 use Rattle.writer.proofs.Pages.{flush_by}
 
 -- ---- a write
@@ -150,9 +150,18 @@ module _ (w : World) (d : Done) (e : d ≡ checks (length w.image) (length w.map
 
 -- ---- a page finished
 
+open_says : (s : State) → fine ≡ open_only s → s.writer.active ≡ true
+open_says s = by s.writer.active
+  where
+    by : (b : Bool) → fine ≡ cond b fine (Err NoSearch) → b ≡ true
+    by true e = refl
+    by false e = absurd (never (sym e))
+
 -- an open writer that passed the checks
-pub passed_ends : {image map file : ℕ} {busy : Bool} (s : State) → Passed image map s busy file → s.writer.active ≡ true → Ends s.writer
-passed_ends s p on = let o = writer_says s.page_count s.writer p.mounted.writer on in record { file = o.file; end = omega (arith, o.end) }
+pub passed_ends : {image map file : ℕ} {busy : Bool} (s : State) → Passed image map s busy file → fine ≡ open_only s → Ends s.writer
+passed_ends s p e =
+    let o = writer_says s.page_count s.writer p.mounted.writer (open_says s e) in
+    record { file = o.file; end = omega (arith, o.end) }
 
 pub finished_is : (w : World) (img m : List ℕ) (h : DataHeader) (t : Table) (st : State)
     → h ≡ staged_header w.state.writer

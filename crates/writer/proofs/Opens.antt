@@ -30,14 +30,3 @@ passed_sized img m s busy file p =
 
 pub shaped_stands : (img : List ℕ) (s : State) (f : FileRecord) → Sized img s → in_shape s.page_count f ≡ true → Stands img s f
 shaped_stands img s f z h = let g = shape_says s.page_count f h in record { sized = z; inside = g.inside; high = g.high }
-
-module _ (w : World) (i : ℕ) (f : FileRecord) where
-  pub copied_page : (q : PagePointer) (p : ℕ) (m' : List ℕ) (x : Writer) (k : ℕ)
-      → alloc_of w.map w.state.page_count w.state.cursor ≡ Some p → m' ≡ set w.map p used → x ≡ copy_writer w.image i f q p → k ≡ beyond w.state.page_count p
-      → record { answer = fine; world = before w.image m' w.table (with_writer (with_cursor w.state k) x) }
-      ≡ ended w (copied_to w i f q (alloc_of w.map w.state.page_count w.state.cursor))
-  copied_page q p m' x k a em ex ek = rw (a, em, ex, ek)
-
-  pub copied_none : (q : PagePointer) → alloc_of w.map w.state.page_count w.state.cursor ≡ None
-      → copied_to w i f q (alloc_of w.map w.state.page_count w.state.cursor) ≡ refuse w NoRoom
-  copied_none q a = rw a

@@ -41,24 +41,20 @@ flush_by w h e = rw e
 
 module _ (img m : List ℕ) (s : State) (img' m' : List ℕ) (v : Writer) (a : Option ℕ)
     (ei : img' ≡ ran img (stores_of s.writer)) (ev : v ≡ unstaged s.writer)
-    (ea : gives a m' ≡ allocated m s.page_count s.cursor) where
+    (ea : a ≡ alloc_of m s.page_count s.cursor) (em : m' ≡ used_by m a) where
   from : wrote img s (next_page s.page_count (begins m s)) ≡ wrote img s (staged s.page_count (flushes (begins m s)) a)
   from =
       ap (wrote img s) (next_is s.page_count (begins m s))
-      ∙ ap (λ (z : Option ℕ). wrote img s (staged s.page_count (flushes (begins m s)) z)) (alloc_told m m' s.page_count s.cursor a ea).0
+      ∙ ap (λ (z : Option ℕ). wrote img s (staged s.page_count (flushes (begins m s)) z)) (sym ea)
 
   pub next_page_lem : (i : ℕ) → a ≡ Some i
       → writes img' m' (with_writer (with_cursor s (beyond s.page_count i)) (on_page v i)) ≡ wrote img s (next_page s.page_count (begins m s))
   unfolding on_page
-  next_page_lem i e =
-      let em : m' ≡ used_by m (Some i) = (alloc_told m m' s.page_count s.cursor a ea).1 ∙ ap (used_by m) e in
-      sym (from ∙ rw (e, ev, em, ei))
+  next_page_lem i e = sym (from ∙ rw (em, e, ev, ei))
 
   pub next_full : a ≡ None → writes img' m' (with_writer s v) ≡ wrote img s (next_page s.page_count (begins m s))
   unfolding with_writer with_cursor
-  next_full e =
-      let em : m' ≡ used_by m None = (alloc_told m m' s.page_count s.cursor a ea).1 ∙ ap (used_by m) e in
-      sym (from ∙ rw (e, ev, em, ei))
+  next_full e = sym (from ∙ rw (em, e, ev, ei))
 
 -- ---- whether one is needed
 

@@ -1,10 +1,10 @@
 -- What the inner functions take and leave, in the words of the calls' definitions. Assumes nothing: these are definitions.
 use Rattle.state.specs.Refusals.{Done, fine}
-use Rattle.std.specs.Prelude.{◌≡◌, ℕ, ◌+◌, ◌*◌, ◌≤◌, ◌<◌, Bool, true, false, cond, not, List, [], ltb, length, take, replicate, Result, Ok, Err}
+use Rattle.std.specs.Prelude.{◌≡◌, ℕ, ◌+◌, ◌*◌, ◌≤◌, ◌<◌, Bool, true, false, cond, not, List, [], ltb, length, take, replicate, Option, Some, None, Result, Ok, Err}
 use Rattle.seq.specs.Ids.{none}
 use Rattle.seq.specs.Seq.{limit}
 use Rattle.page.specs.Store.{Store, ran}
-use Rattle.map.specs.Map.{free_count}
+use Rattle.map.specs.Map.{free_count, beyond}
 use Rattle.chain.specs.declared.PagePointer.{PagePointer}
 use Rattle.chain.specs.Steps.{Stepped, stays, reaches, breaks}
 use Rattle.state.specs.declared.types.Refusal.{Refusal}
@@ -19,6 +19,17 @@ use Rattle.writer.specs.Staging.{is_staged, flush_stores, flushed, space, pages_
 use Rattle.writer.specs.Write.{Writing, write_from}
 use Rattle.writer.specs.Open.{no_page}
 use Rattle.writer.specs.Finish.{Back, lost, pages, freed}
+
+-- ---- NoSearch without a writer
+
+abbrev pub open_only : State → Done
+open_only s = cond s.writer.active fine (Err NoSearch)
+
+-- ---- the cursor, one beyond the page that was allocated, if there is one
+
+abbrev pub moved_on : State → Option ℕ → State
+moved_on s None = s
+moved_on s (Some p) = with_cursor s (beyond s.page_count p)
 
 -- ---- a flush, where a page is staged
 

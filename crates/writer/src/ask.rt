@@ -7,22 +7,16 @@ use state::types::{Refusal, State, Table};
 pub fn space_left_on_current_page(state: &State) -> Result<u64, Refusal>
     ensures { result ≡ space_left state.now }
 {
-    let w = &state.writer;
-    if !w.active {
-        return Err(Refusal::NoSearch);
-    }
-    Ok(crate::staging::space_left(w) as u64)
+    crate::staging::require_open(state)?;
+    Ok(crate::staging::space_left(&state.writer) as u64)
 }
 
 // The number of the next byte.
 pub fn curr_seq(state: &State) -> Result<u64, Refusal>
     ensures { result ≡ curr_seq state.now }
 {
-    let w = &state.writer;
-    if !w.active {
-        return Err(Refusal::NoSearch);
-    }
-    Ok(u64::from(w.seq) + u64::from(w.length))
+    crate::staging::require_open(state)?;
+    Ok(u64::from(state.writer.seq) + u64::from(state.writer.length))
 }
 
 // How far it lies behind the first one of the writer's file.

@@ -54,10 +54,8 @@ pub fn finish(
     ensures { yields result image.new map.new table.new state.new ≡ promised finish (before image.old map.old table.old state.old) }
 {
     state::checks::check(image.len(), map.len(), state, false, 0)?;
-    if !state.writer.active {
-        return Err(Refusal::NoSearch);
-    }
-    if state.writer.page == seq::ids::NONE {
+    crate::staging::require_open(state)?;
+    if !crate::staging::is_staged(&state.writer) {
         state.writer = state::values::no_writer();
         return Ok(());
     }
@@ -113,10 +111,8 @@ pub fn discard(
     ensures { yields result image.now map.new table.now state.new ≡ promised discard (before image.now map.old table.now state.old) }
 {
     state::checks::check(image.len(), map.len(), state, false, 0)?;
+    crate::staging::require_open(state)?;
     let w = &state.writer;
-    if !w.active {
-        return Err(Refusal::NoSearch);
-    }
     let count = usize::from(state.page_count);
     let previous = crate::staging::previous_of(w);
     if !is_unbroken(image, count, &previous, w.stored) {

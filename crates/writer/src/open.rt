@@ -86,13 +86,10 @@ fn copied_to(
     requires { Stands image.now state.old f.now }
     ensures { Leaves (λ w. copied_to w file f.now q.now (alloc_of map.old state.old.page_count state.old.cursor)) image.now map.old state.old result map.new state.new }
 {
-    let count = usize::from(state.page_count);
-    let Some(p) = map::allocate(map, count, usize::from(state.cursor)) else {
+    let Some(p) = crate::staging::allocate(map, state) else {
         return Err(Refusal::NoRoom);
     };
-    // the state is C's, in which an id has 16 bits
-    state.cursor = map::beyond_page(p, count) as u16;
-    state.writer = copy_writer(image, file, f, q, p as u16);
+    state.writer = copy_writer(image, file, f, q, p);
     Ok(())
 }
 

@@ -1,15 +1,35 @@
 // The staged page: its room, its header and its stores.
 #![tactic(auto, unfolding(crate::specs::Staging::staged_links, crate::specs::Staging::staged_header, crate::specs::Staging::space, crate::specs::Staging::pages_for, crate::specs::Staging::too_few))]
 
-ghost use Rattle.std.specs.Prelude.{◌≡◌, take};
+ghost use Rattle.std.specs.Prelude.{◌≡◌, ◌≤◌, ◌<◌, take};
+ghost use Rattle.map.specs.Map.{alloc_of, used_by};
 ghost use Rattle.page.specs.Store.{ran, data_stores};
-ghost use Rattle.writer.specs.Staging.{previous_of, named_below, staged_links, staged_header, space, pages_for, too_few};
+ghost use Rattle.writer.specs.Staging.{is_staged, previous_of, named_below, staged_links, staged_header, space, pages_for, too_few};
 ghost use Rattle.writer.specs.Finish.{marked};
+ghost use Rattle.writer.specs.Inner.{open_only, moved_on};
 
 use chain::PagePointer;
 use page::DataHeader;
-use seq::ids::PageID;
-use state::types::Writer;
+use seq::ids::{OptionPageID, PageID};
+use state::types::{Refusal, State, Writer};
+
+// ---- the writer
+
+// NoSearch without a writer.
+pub fn require_open(state: &State) -> Result<(), Refusal>
+    ensures { result ≡ open_only state.now }
+{
+    if !state.writer.active {
+        return Err(Refusal::NoSearch);
+    }
+    Ok(())
+}
+
+pub fn is_staged(w: &Writer) -> bool
+    ensures { result ≡ is_staged w.now }
+{
+    OptionPageID::from_raw(w.page).is_some()
+}
 
 // ---- room
 
@@ -17,7 +37,7 @@ use state::types::Writer;
 pub fn space_left(w: &Writer) -> usize
     ensures { result ≡ space w.now }
 {
-    if w.page == seq::ids::NONE {
+    if !is_staged(w) {
         return 0;
     }
     page::PAYLOAD_SIZE.saturating_sub(usize::from(w.length))
@@ -35,6 +55,18 @@ pub fn too_few(map: &[u8], count: u16, k: usize) -> bool
     ensures { result ≡ too_few map.now count k }
 {
     k != 0 && map::count_free(map, usize::from(count)) <= k
+}
+
+// The next free page is used from now on, and the cursor lies one beyond it.
+pub fn allocate(map: &mut [u8], state: &mut State) -> Option<u16>
+    requires { (state.old.page_count ≤ 1024) × (state.old.cursor < state.old.page_count) }
+    ensures { (result ≡ alloc_of map.old state.old.page_count state.old.cursor) × (map.new ≡ used_by map.old result) × (state.new ≡ moved_on state.old result) }
+{
+    let count = usize::from(state.page_count);
+    let p = map::allocate(map, count, usize::from(state.cursor))?;
+    // the state is C's, in which an id has 16 bits
+    state.cursor = map::beyond_page(p, count) as u16;
+    Some(p as u16)
 }
 
 // ---- the page

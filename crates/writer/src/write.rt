@@ -47,7 +47,7 @@ fn flush(image: &mut [u8], w: &mut Writer)
     requires { (w.old.seq + w.old.length < 4294967296) × (w.old.stored < 4294967295) }
     ensures { (image.new ≡ ran image.old (stores_of w.old)) × (w.new ≡ unstaged w.old) }
 {
-    if w.page == seq::ids::NONE {
+    if !crate::staging::is_staged(w) {
         return;
     }
     let header = crate::staging::staged_header(w);
@@ -61,11 +61,8 @@ fn next_page(image: &mut [u8], map: &mut [u8], state: &mut State)
     ensures { writes image.new map.new state.new ≡ wrote image.old state.old (next_page state.old.page_count (begins map.old state.old)) }
 {
     flush(image, &mut state.writer);
-    let count = usize::from(state.page_count);
-    if let Some(p) = map::allocate(map, count, usize::from(state.cursor)) {
-        // the state is C's, in which an id has 16 bits
-        state.cursor = map::beyond_page(p, count) as u16;
-        staged_on(&mut state.writer, p as u16);
+    if let Some(p) = crate::staging::allocate(map, state) {
+        staged_on(&mut state.writer, p);
     }
 }
 
@@ -110,10 +107,8 @@ fn write_all(image: &mut [u8], map: &mut [u8], state: &mut State, bytes: &[u8])
 fn may_write(map: &[u8], state: &State, len: usize) -> Result<(), Refusal>
     ensures { result ≡ may_write map.now state.now len }
 {
+    crate::staging::require_open(state)?;
     let w = &state.writer;
-    if !w.active {
-        return Err(Refusal::NoSearch);
-    }
     let end = u64::from(w.seq) + u64::from(w.length);
     if seq::numbers::SEQ_LIMIT < end.saturating_add(len as u64) {
         return Err(Refusal::SeqEnd);
@@ -151,7 +146,7 @@ fn ended(w: &mut Writer)
     ensures { w.new ≡ record_ended w.old }
 {
     w.ended = true;
-    if w.page != seq::ids::NONE && w.boundary == state::values::NO_BOUNDARY {
+    if crate::staging::is_staged(w) && w.boundary == state::values::NO_BOUNDARY {
         w.boundary = w.length;
     }
 }
@@ -160,9 +155,7 @@ pub fn record_end(image: &[u8], map: &[u8], table: &Table, state: &mut State) ->
     ensures { yields result image.now map.now table.now state.new ≡ promised record_end (before image.now map.now table.now state.old) }
 {
     state::checks::check(image.len(), map.len(), state, false, 0)?;
-    if !state.writer.active {
-        return Err(Refusal::NoSearch);
-    }
+    crate::staging::require_open(state)?;
     ended(&mut state.writer);
     Ok(())
 }

@@ -7,4 +7,4 @@ use Rattle.writer.proofs.finish.finish.Goals as goal
 
 pub finish_page-requires : goal.finish_page-requires
 finish_page-requires c =
-    passed_ends _ (checks_pass _ _ _ _ _ (sym c.check.ensures ∙ c.in_ok-check.was)) c.if-not-state.false
+    passed_ends _ (checks_pass _ _ _ _ _ (sym c.check.ensures ∙ c.in_ok-check.was)) c.in_ok-require_open.ensures
