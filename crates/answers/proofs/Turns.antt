@@ -15,7 +15,8 @@ use Rattle.reader.proofs.Numbers.{read_same}
 use Rattle.script.specs.declared.command.Command.{Command}
 use Rattle.script.specs.declared.command.Command.TheVariants as C
 use Rattle.script.specs.declared.command.Setup.{Setup}
-use Rattle.script.specs.Text.{ascii, Spot, puts}
+use Rattle.script.specs.declared.text.Output.{Output}
+use Rattle.script.specs.Text.{ascii, puts}
 use Rattle.script.specs.Say as say
 use Rattle.answers.specs.declared.world.World.{World}
 use Rattle.answers.specs.World.{Turned, left, scene}
@@ -41,7 +42,7 @@ drop_least n l = elim (dec_le n (length l)) [
 ]
 
 -- a command that is no setup is one on what is lent
-pub other : (c : Command) (i m b : List ℕ) (w : World) (p : Spot) → ((what : Setup) → c ≡ C.Setup what → ⊥) → on_command c i m b w p ≡ on_buffers c i m b w p
+pub other : (c : Command) (i m b : List ℕ) (w : World) (p : Output) → ((what : Setup) → c ≡ C.Setup what → ⊥) → on_command c i m b w p ≡ on_buffers c i m b w p
 other (C.Setup what) i m b w p h = absurd (h what refl)
 other (C.Volume what) i m b w p h = refl
 other (C.Reading what) i m b w p h = refl
@@ -63,13 +64,13 @@ pub back_part : (b o : List ℕ) (n : ℕ) → length o ≡ n → take n (o ++ d
 back_part b o n k = take_at o (drop n b) n k
 
 -- the bytes that a read leaves, with its answer
-pub read_left : (b o : List ℕ) (n : ℕ) → length o ≡ n → (p q : Spot) (d : Done) (r : Reader) (a : AfterRead) → read_told (after_read d r o) ≡ read_told a
+pub read_left : (b o : List ℕ) (n : ℕ) → length o ≡ n → (p q : Output) (d : Done) (r : Reader) (a : AfterRead) → read_told (after_read d r o) ≡ read_told a
     → q ≡ puts p (on_done d say.refused (say.hex (ascii "bytes") o)) → sight (o ++ drop n b) q ≡ read_by b p a
 read_left b o n k p q d r a e f = rw (back_splice b o n k, f) (ap (read_by b p) (read_same (after_read d r o) a e))
 
 -- ---- what was lent comes back
 
-pub lent_back : (c : Command) (i m b : List ℕ) (w : World) (p : Spot) (x y : ℕ) (i' m' b' : List ℕ) (t : Turned) → x ≡ min w.image (length i) → y ≡ min w.map (length m)
+pub lent_back : (c : Command) (i m b : List ℕ) (w : World) (p : Output) (x y : ℕ) (i' m' b' : List ℕ) (t : Turned) → x ≡ min w.image (length i) → y ≡ min w.map (length m)
     → scene b' (left i' m' t) ≡ on_lent c (take x i) (take y m) b w p → scene b' (left (i' ++ drop x i) (m' ++ drop y m) t) ≡ on_buffers c i m b w p
 lent_back c i m b w p x y i' m' b' t e f h =
     let g : scene b' (left i' m' t) ≡ on_lent c (take w.image i) (take w.map m) b w p = rw (← take_least w.image i, ← take_least w.map m, ← e, ← f) h in

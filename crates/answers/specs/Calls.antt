@@ -36,7 +36,8 @@ use Rattle.script.specs.declared.command.Files.{Files}
 use Rattle.script.specs.declared.command.Files.TheVariants.{Truncate, Rename, Flags, Commit}
 use Rattle.script.specs.declared.command.Helper.{Helper}
 use Rattle.script.specs.declared.command.Helper.TheVariants.{Zeros, Index, SpanSeq, Seed}
-use Rattle.script.specs.Text.{ascii, Spot, puts}
+use Rattle.script.specs.declared.text.Output.{Output}
+use Rattle.script.specs.Text.{ascii, puts}
 use Rattle.script.specs.Say as say
 use Rattle.script.specs.Say.{formed, hex, bad}
 use Rattle.answers.specs.declared.world.World.{World}
@@ -47,17 +48,17 @@ abbrev pub lent : List ℕ → List ℕ → World → W.World
 lent i m w = before i m w.table w.state
 
 -- the output with an answer, and the world from then on
-abbrev pub told_by : World → Spot → List (List ℕ) → Table → State → Turned
+abbrev pub told_by : World → Output → List (List ℕ) → Table → State → Turned
 told_by w p said t s = record { out = puts p said; world = record { table = t; state = s; image = w.image; map = w.map } }
 
 -- what a call leaves, with its answer
-abbrev pub told : {A : Type 0} → (A → List (List ℕ)) → World → Spot → After A → Left
+abbrev pub told : {A : Type 0} → (A → List (List ℕ)) → World → Output → After A → Left
 told say w p a = left a.world.image a.world.map (told_by w p (say a.answer) a.world.table a.world.state)
 
-abbrev pub done_by : (W.World → W.Outcome Done) → List ℕ → List ℕ → World → Spot → Left
+abbrev pub done_by : (W.World → W.Outcome Done) → List ℕ → List ℕ → World → Output → Left
 done_by call i m w p = told say.done w p (after_call call (lent i m w))
 
-abbrev pub on_volume : Volume → List ℕ → List ℕ → World → Spot → Left
+abbrev pub on_volume : Volume → List ℕ → List ℕ → World → Output → Left
 on_volume Format i m w p = done_by VolumeFormat.format i m w p
 on_volume Mount i m w p = done_by VolumeMount.mount i m w p
 
@@ -74,21 +75,21 @@ skipped (Err why) = say.refused why
 -- a buffer, here the bytes that commands carry, and the output
 pub record Sight : Type 0 where
   pub bytes : List ℕ
-  pub out : Spot
+  pub out : Output
 
-abbrev pub sight : List ℕ → Spot → Sight
+abbrev pub sight : List ℕ → Output → Sight
 sight b p = record { bytes = b; out = p }
 
 -- what is read goes by way of those bytes, from their start on
-abbrev pub read_by : List ℕ → Spot → ReaderRead.AfterRead → Sight
+abbrev pub read_by : List ℕ → Output → ReaderRead.AfterRead → Sight
 read_by b p a = sight (splice b 0 a.out) (puts p (on_done a.answer say.refused (hex (ascii "bytes") a.out)))
 
-abbrev pub read_of : W.World → ℕ → ℕ → ℕ → List ℕ → Spot → Sight
+abbrev pub read_of : W.World → ℕ → ℕ → ℕ → List ℕ → Output → Sight
 read_of v file seq n b p =
     cond (ltb (length b) n) (sight b (puts p bad))
     (read_by b p (ReaderRead.read v (record { file = file; seq = seq }) (take n b)))
 
-abbrev pub on_reading : Reading → List ℕ → List ℕ → List ℕ → World → Spot → Sight
+abbrev pub on_reading : Reading → List ℕ → List ℕ → List ℕ → World → Output → Sight
 on_reading (Locate file seq) i m b w p = sight b (puts p (located (ReaderLocate.locate (lent i m w) file seq)))
 on_reading (Read file seq n) i m b w p = read_of (lent i m w) file seq n b p
 on_reading (Skip file seq n) i m b w p = sight b (puts p (skipped (ReaderSkip.skip (lent i m w) (record { file = file; seq = seq }) n)))
@@ -100,21 +101,21 @@ sought (Ok (A.Offer seq)) = formed (ascii "offer %\n") (seq ∷ [])
 sought (Ok (A.End seq)) = formed (ascii "end %\n") (seq ∷ [])
 sought (Err why) = say.refused why
 
-abbrev pub on_searching : Searching → List ℕ → List ℕ → World → Spot → Left
+abbrev pub on_searching : Searching → List ℕ → List ℕ → World → Output → Left
 on_searching (Search file) i m w p = told sought w p (after_call (λ v. SearchCalls.start v file) (lent i m w))
 on_searching ToLeft i m w p = told sought w p (after_call SearchCalls.left (lent i m w))
 on_searching ToRight i m w p = told sought w p (after_call SearchCalls.right (lent i m w))
 
 -- ---- writing and files
 
-abbrev pub on_writing : Writing → List ℕ → List ℕ → List ℕ → World → Spot → Left
+abbrev pub on_writing : Writing → List ℕ → List ℕ → List ℕ → World → Output → Left
 on_writing (Open file) b i m w p = done_by (λ v. open_writer v file) i m w p
 on_writing (Write n) b i m w p = done_by (λ v. WriterWrite.write v (part_of b 0 n)) i m w p
 on_writing End b i m w p = done_by WriterWrite.record_end i m w p
 on_writing Finish b i m w p = done_by WriterFinish.finish i m w p
 on_writing Discard b i m w p = done_by WriterFinish.discard i m w p
 
-abbrev pub on_files : Files → List ℕ → List ℕ → World → Spot → Left
+abbrev pub on_files : Files → List ℕ → List ℕ → World → Output → Left
 on_files (Truncate file n) i m w p = done_by (λ v. TransactTruncate.truncate v file n) i m w p
 on_files (Rename from to) i m w p = done_by (λ v. TransactRename.rename v from to) i m w p
 on_files (Flags file flags) i m w p = done_by (λ v. TransactRename.flags v file flags) i m w p

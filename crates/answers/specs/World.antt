@@ -1,6 +1,6 @@
 -- The world of a script, by docs/REPLAY.md, "The world of a script", and what an answer leaves. Assumes nothing: these are definitions.
 use Rattle.std.specs.Prelude.{ℕ, List}
-use Rattle.script.specs.Text.{Spot}
+use Rattle.script.specs.declared.text.Output.{Output}
 use Rattle.state.specs.Values.{empty_table, unmounted}
 use Rattle.answers.specs.declared.world.World.{World}
 
@@ -10,10 +10,10 @@ fresh seed image map = record { table = empty_table; state = unmounted seed; ima
 
 -- the output with the answer's text, and the world from then on
 pub record Turned : Type 0 where
-  pub out : Spot
+  pub out : Output
   pub world : World
 
-abbrev pub turned : Spot → World → Turned
+abbrev pub turned : Output → World → Turned
 turned out w = record { out = out; world = w }
 
 -- with the image and the map then, and with the bytes that commands carry

@@ -48,7 +48,7 @@ fn said_searched(output: &mut Output, answer: Result<Answer, Refusal>)
 }
 
 impl World {
-    pub fn on_volume(&mut self, image: &mut [u8], map: &mut [u8], output: &mut Output, what: Volume)
+    pub(crate) fn on_volume(&mut self, image: &mut [u8], map: &mut [u8], output: &mut Output, what: Volume)
         ensures { left image.new map.new (turned output.new self.new) ≡ on_volume what image.old map.old self.old output.old }
     {
         let answer = match what {
@@ -88,7 +88,7 @@ impl World {
         }
     }
 
-    pub fn on_reading(
+    pub(crate) fn on_reading(
         &self,
         image: &[u8],
         map: &[u8],
@@ -116,7 +116,7 @@ impl World {
         }
     }
 
-    pub fn on_searching(&mut self, image: &[u8], map: &[u8], output: &mut Output, what: Searching)
+    pub(crate) fn on_searching(&mut self, image: &[u8], map: &[u8], output: &mut Output, what: Searching)
         ensures { left image.now map.now (turned output.new self.new) ≡ on_searching what image.now map.now self.old output.old }
     {
         let answer = match what {
@@ -129,7 +129,7 @@ impl World {
         said_searched(output, answer);
     }
 
-    pub fn on_writing(
+    pub(crate) fn on_writing(
         &mut self,
         image: &mut [u8],
         map: &mut [u8],
@@ -152,7 +152,7 @@ impl World {
         say::done(output, answer);
     }
 
-    pub fn on_files(&mut self, image: &mut [u8], map: &mut [u8], output: &mut Output, what: Files)
+    pub(crate) fn on_files(&mut self, image: &mut [u8], map: &mut [u8], output: &mut Output, what: Files)
         ensures { left image.new map.new (turned output.new self.new) ≡ on_files what image.old map.old self.old output.old }
     {
         let World { table, state, .. } = self;
@@ -169,7 +169,7 @@ impl World {
         say::done(output, answer);
     }
 
-    pub fn on_show(&self, image: &[u8], map: &[u8], output: &mut Output, what: Show)
+    pub(crate) fn on_show(&self, image: &[u8], map: &[u8], output: &mut Output, what: Show)
         ensures { output.new ≡ puts output.old (shown image.now map.now self.now.table self.now.state what) }
     {
         show::on_show(output, image, map, &self.table, &self.state, what);

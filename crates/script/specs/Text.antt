@@ -2,7 +2,9 @@
 use Rattle.std.specs.Prelude.{ℕ, ◌+◌, ◌/◌, ◌%◌, List, [], ◌∷◌, Bool, Option, Some, None, cond, leb, ltb, eqb, length, drop, ◌≡◌}
 use Prim.Native.Char.{code}
 use Prim.Native.String.{String, [] as end, ◌∷◌ as ◌then◌}
-use Rattle.runs.specs.Runs.{placed}
+use Rattle.std.specs.Borrow.{MutBor}
+use Rattle.runs.specs.Runs.{part_of, placed}
+use Rattle.script.specs.declared.text.Output.{Output}
 
 -- the bytes of a text that stands here in quotes
 abbrev pub ascii : String → List ℕ
@@ -47,20 +49,26 @@ next_word ws (Some w) vs = ws ≡ w ∷ vs
 abbrev pub behind : ℕ → ℕ → ℕ → ℕ
 behind room at n = cond (leb (at + n) room) (at + n) room
 
--- a buffer, and the index in it at which the next text is put
-pub record Spot : Type 0 where
-  pub buffer : List ℕ
-  pub at : ℕ
+-- a lent buffer, and the index in it at which the next text is put
+abbrev pub spot : MutBor (List ℕ) → ℕ → Output
+spot b i = record { buffer = b; at = i }
 
-abbrev pub spot : List ℕ → ℕ → Spot
-spot l i = record { buffer = l; at = i }
+-- that index, what stands before it where the buffer has it whole, and the output with nothing in it
+abbrev pub place : Output → ℕ
+place s = s.at
 
--- a text put there, and nothing where it does not fit
-abbrev pub put : Spot → List ℕ → Spot
-put s t = spot (placed s.buffer s.at t) (behind (length s.buffer) s.at (length t))
+abbrev pub held : Output → List ℕ
+held s = part_of s.buffer.now 0 s.at
+
+abbrev pub cleared : Output → Output
+cleared s = spot s.buffer 0
+
+-- a text put there, and nothing where it does not fit: the loan stays, so that its lender knows what the buffer ends as
+abbrev pub put : Output → List ℕ → Output
+put s t = spot (record s.buffer { now = placed s.buffer.now s.at t }) (behind (length s.buffer.now) s.at (length t))
 
 -- texts put behind each other
-abbrev pub puts : Spot → List (List ℕ) → Spot
+abbrev pub puts : Output → List (List ℕ) → Output
 puts s [] = s
 puts s (t ∷ ts) = puts (put s t) ts
 

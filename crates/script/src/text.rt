@@ -3,8 +3,8 @@ ghost use Rattle.std.specs.Prelude.{◌≡◌, ◌+◌, ◌*◌, ◌<◌, ◌≤
 ghost use Rattle.std.specs.Option.{option_copied};
 ghost use Rattle.std.specs.Iterator.{at_most};
 ghost use Rattle.io.specs.Digits.{IsDigitCount};
-ghost use Rattle.runs.specs.Runs.{part_of, splice};
-ghost use Rattle.script.specs.Text.{until, rest, words, words_of, next_word, behind, Spot, spot, put, hex_digit, hex_digits};
+ghost use Rattle.runs.specs.Runs.{placed, splice};
+ghost use Rattle.script.specs.Text.{until, rest, words, words_of, next_word, behind, spot, place, held, cleared, put, hex_digit, hex_digits};
 ghost use Rattle.script.specs.Say.{decimal};
 
 use std::marker::Model;
@@ -54,17 +54,12 @@ impl<'a> Iterator for Words<'a> {
     }
 }
 
-// The output buffer, and where in it the next text is put.
+// The output buffer, and where in it the next text is put. It has no model: one hides the loan, and the lender would not know what the
+// buffer ends as.
 #[derive(Drop)]
 pub struct Output<'a> {
     buffer: &'a mut [u8],
     at: usize,
-}
-
-impl<'a> Model for Output<'a> {
-    ghost Value = { Spot };
-
-    ghost view = { λ o. spot o.buffer.now o.at };
 }
 
 // Where what is put at an index ends: the buffer's end where it does not fit.
@@ -98,7 +93,8 @@ fn write_hex(out: &mut [u8], at: usize, bytes: &[u8])
 
 // The same where it fits: where it ends.
 fn hex_at(out: &mut [u8], at: usize, bytes: &[u8]) -> usize
-    ensures { spot out.new result ≡ put (spot out.old at) (hex_digits bytes.now) }
+    ensures text { out.new ≡ placed out.old at (hex_digits bytes.now) }
+    ensures end { result ≡ behind (length out.old) at (length (hex_digits bytes.now)) }
 {
     let room = out.len();
     if room < at {
@@ -113,27 +109,27 @@ fn hex_at(out: &mut [u8], at: usize, bytes: &[u8]) -> usize
 
 impl<'a> Output<'a> {
     pub fn new(buffer: &'a mut [u8], at: usize) -> Output<'a>
-        ensures { result ≡ spot buffer.old at }
+        ensures { result ≡ spot buffer.entry at }
     {
         Output { buffer, at }
     }
 
     pub fn at(&self) -> usize
-        ensures { result ≡ self.now.at }
+        ensures { result ≡ place self.now }
     {
         self.at
     }
 
     // What is held, where the buffer has it whole.
     pub fn held(&self) -> &[u8]
-        ensures { result.now ≡ part_of self.now.buffer 0 self.now.at }
+        ensures { result.now ≡ held self.now }
     {
         runs::part_of(&*self.buffer, 0, self.at)
     }
 
     // Nothing is held from then on.
     pub fn clear(&mut self)
-        ensures { self.new ≡ spot self.old.buffer 0 }
+        ensures { self.new ≡ cleared self.old }
     {
         self.at = 0;
     }

@@ -10,16 +10,16 @@ use Rattle.script.proofs.text.hex_at.Goals as goal
 pub returns-then-room-at : goal.returns-then-room-at
 returns-then-room-at c = let a = c.args in
     let g : length a.out.now < a.at + length (hex_digits a.bytes.now) = rw (hex_length a.bytes.now) (omega arith) in
-    rw (placed_out a.out.now a.at (hex_digits a.bytes.now) g, lt-leb _ _ g)
+    record { text = rw (placed_out a.out.now a.at (hex_digits a.bytes.now) g); end = rw (lt-leb _ _ g) }
 
 pub returns-then-room-at-2 : goal.returns-then-room-at-2
 returns-then-room-at-2 c = let a = c.args in
     let h : length a.out.now < a.at + 2 * length a.bytes.now = omega arith in
     let g : length a.out.now < a.at + length (hex_digits a.bytes.now) = rw (hex_length a.bytes.now) h in
-    rw (placed_out a.out.now a.at (hex_digits a.bytes.now) g, lt-leb _ _ g)
+    record { text = rw (placed_out a.out.now a.at (hex_digits a.bytes.now) g); end = rw (lt-leb _ _ g) }
 
 pub returns : goal.returns
 returns c = let a = c.args in
     let h : a.at + 2 * length a.bytes.now ≤ length a.out.now = omega arith in
     let g : a.at + length (hex_digits a.bytes.now) ≤ length a.out.now = rw (hex_length a.bytes.now) h in
-    rw (placed_in a.out.now a.at (hex_digits a.bytes.now) g, le-leb _ _ g, hex_length a.bytes.now) (cc (c.write_hex.ensures))
+    record { text = rw (placed_in a.out.now a.at (hex_digits a.bytes.now) g) c.write_hex.ensures; end = rw (le-leb _ _ g, hex_length a.bytes.now) }
