@@ -1,4 +1,4 @@
-// The calls, each with its answer put into the output buffer.
+// The calls, each with its answer put into the output buffer. They take image and map apart, as the calls below do.
 ghost use Rattle.std.specs.Prelude.{◌≡◌};
 ghost use Rattle.seq.specs.Seq.{reply};
 ghost use Rattle.state.specs.World.{before};
@@ -181,8 +181,7 @@ fn said_number(output: &mut Output, answer: Result<u32, SeqError>)
 {
     match answer {
         Ok(n) => say::form(output, b"value %\n", &[u64::from(n)]),
-        Err(SeqError::Range) => say::refused(output, Refusal::Range),
-        Err(SeqError::SeqEnd) => say::refused(output, Refusal::SeqEnd),
+        Err(why) => say::refused(output, Refusal::from(why)),
     }
 }
 

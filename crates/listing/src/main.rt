@@ -75,12 +75,14 @@ fn drain<R: Read>(input: &mut R) -> io::Result<()> {
     Ok(())
 }
 
+// One byte more than the largest image.
+const ROOM: usize = 65537;
+
 fn main(rt: HostRuntime) -> io::Result<()> {
-    // one byte more than the largest image
-    let mut image = [0; 65537];
+    let mut image = [0; ROOM];
     let mut input = rt.stdin();
     let n = read_full(&mut input, &mut image)?;
-    if n == 65537 {
+    if n == ROOM {
         drain(&mut input)?;
     }
     print_inventory(&rt, inventory::list_image(&image[..n]))

@@ -22,12 +22,10 @@ struct Replay<'a> {
 }
 
 impl<'a> Replay<'a> {
-    // Writes what is held, where it is much or nothing follows.
-    fn write(&mut self, rt: &impl Print, last: bool) -> io::Result<()> {
-        if last || HELD <= self.output.at() {
-            rt.write_all(self.output.held())?;
-            self.output.clear();
-        }
+    // Writes what is held.
+    fn flush(&mut self, rt: &impl Print) -> io::Result<()> {
+        rt.write_all(self.output.held())?;
+        self.output.clear();
         Ok(())
     }
 
@@ -48,7 +46,9 @@ impl<'a> Replay<'a> {
         for (newlines, part) in chunk.split(|b| *b == b'\n').enumerate() {
             if newlines != 0 {
                 self.answer();
-                self.write(rt, false)?;
+                if HELD <= self.output.at() {
+                    self.flush(rt)?;
+                }
             }
             self.line.put(part);
         }
@@ -64,13 +64,13 @@ impl<'a> Replay<'a> {
                 Ok(n) => self.take(rt, &chunk[..n])?,
                 Err(why) => {
                     // what is held is written all the same
-                    self.write(rt, true)?;
+                    self.flush(rt)?;
                     return Err(why);
                 }
             }
         }
         self.answer();
-        self.write(rt, true)
+        self.flush(rt)
     }
 }
 

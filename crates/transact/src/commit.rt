@@ -56,6 +56,16 @@ fn commit_moved(
     Ok(())
 }
 
+// What is kept is kept: held pages are free, and the transaction ends.
+#[tactic(auto, unfolding(state::specs::Values::closed))]
+fn settle(map: &mut [u8], state: &mut State)
+    ensures pages { map.new ≡ released map.old }
+    ensures closes { state.new ≡ closed state.old }
+{
+    map::release(map);
+    state.transaction = false;
+}
+
 // A commit of a batch: on the metadata page where it fits and the rest is all 0xFF.
 #[tactic(auto, unfolding(state::specs::Values::closed))]
 fn commit_batch(
@@ -74,8 +84,7 @@ fn commit_batch(
     let count = batch::count_dirty(table);
     if metalog::fits(end, count) && metalog::rest_erased(image, meta, end) {
         batch::append_dirty(image, table, meta, end);
-        map::release(map);
-        state.transaction = false;
+        settle(map, state);
         return Ok(());
     }
     commit_moved(image, map, table, state)
@@ -94,8 +103,7 @@ pub fn commit(
 {
     state::checks::check(image.len(), map.len(), state, state.writer.active, 0)?;
     if batch::count_dirty(table) == 0 {
-        map::release(map);
-        state.transaction = false;
+        settle(map, state);
         return Ok(());
     }
     commit_batch(image, map, table, state)
