@@ -48,7 +48,13 @@ fn said_searched(output: &mut Output, answer: Result<Answer, Refusal>)
 }
 
 impl World {
-    pub(crate) fn on_volume(&mut self, image: &mut [u8], map: &mut [u8], output: &mut Output, what: Volume)
+    pub(crate) fn on_volume(
+        &mut self,
+        image: &mut [u8],
+        map: &mut [u8],
+        output: &mut Output,
+        what: Volume,
+    )
         ensures { left image.new map.new (turned output.new self.new) ≡ on_volume what image.old map.old self.old output.old }
     {
         let answer = match what {
@@ -116,7 +122,13 @@ impl World {
         }
     }
 
-    pub(crate) fn on_searching(&mut self, image: &[u8], map: &[u8], output: &mut Output, what: Searching)
+    pub(crate) fn on_searching(
+        &mut self,
+        image: &[u8],
+        map: &[u8],
+        output: &mut Output,
+        what: Searching,
+    )
         ensures { left image.now map.now (turned output.new self.new) ≡ on_searching what image.now map.now self.old output.old }
     {
         let answer = match what {
@@ -152,7 +164,13 @@ impl World {
         say::done(output, answer);
     }
 
-    pub(crate) fn on_files(&mut self, image: &mut [u8], map: &mut [u8], output: &mut Output, what: Files)
+    pub(crate) fn on_files(
+        &mut self,
+        image: &mut [u8],
+        map: &mut [u8],
+        output: &mut Output,
+        what: Files,
+    )
         ensures { left image.new map.new (turned output.new self.new) ≡ on_files what image.old map.old self.old output.old }
     {
         let World { table, state, .. } = self;

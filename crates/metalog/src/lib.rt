@@ -41,7 +41,7 @@ enum Batch {
 }
 
 // The eight files as entries say: last page, first_seq, flags. An array for each field and no array of structs, since
-// the theorems of a commit and of what was reached speak of each field's list.
+// theorems speak of each field's list: owners' `val_in`, volume's `load_from`, transact's `files_of`.
 #[derive(Clone, Copy)]
 pub struct Files {
     pub last: [u16; 8],

@@ -53,7 +53,7 @@ pub struct PageView<'a> {
 
 // ---- reading a page's bytes
 
-// Page p, a part of the image, or nothing.
+// Page p, a part of the image, or nothing. By indices, here and in the stores: the library gives `chunks_exact(..).nth(p)` no contract.
 pub fn page_of(image: &[u8], p: usize) -> &[u8]
     ensures { result.now ≡ page_of image.now p }
 {
@@ -138,7 +138,7 @@ impl DataHeader {
 }
 
 impl BackRead {
-    // Of the same header, what a step back asks: a walk of many pages copies no headers.
+    // Of the same header, what a step back asks, so that a walk of many pages carries no headers.
     #[tactic(auto, using(crate::proofs::Headers::given_none), unfolding(crate::specs::Page::gives_back))]
     fn from_page(pg: &[u8]) -> Option<BackRead>
         ensures { result ≡ gives_back (header_of pg.now) }

@@ -1,5 +1,5 @@
-// The page of a number: located, and opened. The image and its count of pages travel as two parameters, as in chain: behind a
-// struct that held the reference each clause would read `p.entry.image.now`.
+// The page of a number: located, and opened. The image and its count of pages travel as two parameters, as in chain: each call
+// would have to make a struct of its image and its state's page_count, and a clause would say `pages.now.image`.
 #![tactic(auto, unfolding(crate::specs::Turn::behind, crate::specs::Locate::locate_in, crate::specs::Skip::landed, crate::specs::Skip::skip_in))]
 
 ghost use Rattle.std.specs.Prelude.{◌≡◌, ◌+◌, IfOk};

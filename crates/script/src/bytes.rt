@@ -64,7 +64,7 @@ fn is_run(room: usize, word: &[u8]) -> bool
     !word.is_empty() && word.len() % 2 == 0 && word.len() / 2 <= room && all_hex(word)
 }
 
-// The bytes of digits that were looked through, from the buffer's start on.
+// The bytes of digits that were looked through, from the buffer's start on. By index, as `write_hex`.
 fn decode(word: &[u8], out: &mut [u8])
     requires { (length word.now % 2 ≡ 0) × (length word.now / 2 ≤ length out.old) × (all_hex word.now ≡ true) }
     ensures { out.new ≡ placed out.old 0 (bytes_of word.now) }

@@ -348,6 +348,7 @@ fn poke(words: &mut Words, into: Buffer, buffer: &mut [u8]) -> Option<Command>
     Some(Command::Setup(Setup::Poke(into, at, n)))
 }
 
+// By `==`: on a `match` over byte strings the check gives up at the longer names.
 fn named(name: &[u8], words: &mut Words, buffer: &mut [u8]) -> Option<Command>
     ensures { told result buffer.new ≡ named name.now words.old buffer.old }
 {

@@ -80,7 +80,7 @@ fn digit(n: u8) -> u8
     if n < 10 { b'0' + n } else { b'a' - 10 + n }
 }
 
-// Bytes, each as two digits in hex, from an index on.
+// Bytes, each as two digits in hex, from an index on. By index: no law of the library speaks of `chunks_exact_mut` zipped with a run.
 fn write_hex(out: &mut [u8], at: usize, bytes: &[u8])
     requires { at + 2 * length bytes.now ≤ length out.old }
     ensures { out.new ≡ splice out.old at (hex_digits bytes.now) }

@@ -141,7 +141,7 @@ pub fn search(
 
 // ---- left and right
 
-// The answer to the position on offer, right or left, as C asks it by a flag. No table is looked at.
+// The answer to the position on offer, right or left, as C asks it by a flag (docs/DECISIONS.md, 44). No table is looked at.
 pub fn turn(image: &[u8], map: &[u8], state: &mut State, to_right: bool) -> Result<Answer, Refusal>
     ensures { (t : Table) → yields result image.now map.now t state.new ≡ promised (turn to_right) (before image.now map.now t state.old) }
 {
