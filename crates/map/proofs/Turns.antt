@@ -2,10 +2,8 @@
 -- Assumes nothing.
 use Prim.Native.Nat.{ℕ, zero, suc, ◌+◌, ◌-◌, min, ◌≤◌, ◌<◌}
 use mathlib.Core.Path.{◌≡◌, refl, sym, ap, ◌∙◌}
-use mathlib.Core.List.{List, [], ◌∷◌, ◌++◌, append-nil}
-use native.Mathlib.Nat.{le_of_suc-le-suc, not-suc-le-zero}
+use mathlib.Core.List.{List, [], ◌∷◌, ◌++◌}
 use native.Mathlib.Omega.{arith}
-use native.Mathlib.Numerals.{add-one}
 use lib.ListN.{length, take, drop, get_or, set, length-take, length-drop, drop_of_length-le}
 use lib.Seq.{take_all, take-length}
 use borrow.Author.Tests.{lt-ltb, le-ltb}
@@ -23,23 +21,6 @@ at_seam s d zero h k = refl
 at_seam [] d (suc i) h k = absurd (omega arith)
 at_seam (x ∷ s) [] (suc i) h k = absurd (omega arith)
 at_seam (x ∷ s) (y ∷ d) (suc i) h k = at_seam s d i (omega arith) (omega arith)
-
-write_suc : (s d : List ℕ) (i : ℕ) → i < length s → i < length d → set (take i s ++ drop i d) i (get_or s i 0) ≡ take (suc i) s ++ drop (suc i) d
-write_suc [] d i h k = absurd (not-suc-le-zero h)
-write_suc (x ∷ s) [] i h k = absurd (not-suc-le-zero k)
-write_suc (x ∷ s) (y ∷ d) zero h k = refl
-write_suc (x ∷ s) (y ∷ d) (suc i) h k = ap (λ (l : List ℕ). x ∷ l) (write_suc s d i (le_of_suc-le-suc h) (le_of_suc-le-suc k))
-
--- a store of s's byte at i, where the i bytes before it are those of s
-pub write_more : (s d : List ℕ) (i : ℕ) → i < length s → i < length d → set (take i s ++ drop i d) i (get_or s i 0) ≡ take (i + 1) s ++ drop (i + 1) d
-write_more s d i h k = rw add-one (write_suc s d i h k)
-
--- all of them
-pub write_all : (s d : List ℕ) (i : ℕ) → i ≤ length s → length s ≤ i → length d ≡ length s → take i s ++ drop i d ≡ s
-write_all s d i h k e =
-    let a : i ≡ length s = omega arith in
-    let b : length d ≤ i = omega arith in
-    rw (drop_of_length-le d b, a, take-length s) (append-nil s)
 
 -- ---- the two parts of the map from a cursor on
 

@@ -6,14 +6,14 @@ use mathlib.Core.Bool.{true, false}
 use mathlib.Core.List.{List, [], ◌++◌, append-nil, append_assoc}
 use mathlib.Core.Logic.{inl, inr}
 use Prim.Native.Nat.{ℕ, zero, suc, min, ◌+◌, ◌-◌, ◌<◌, ◌≤◌}
-use native.Mathlib.Nat.{eq-zero-or-pos, sub_self}
+use native.Mathlib.Nat.{eq-zero-or-pos, sub_self, zero-add}
 use native.Mathlib.Omega.{arith}
 use borrow.Author.Tests.{ne_eqb}
 use lib.ListN.{length, take, drop, replicate, length-append, length-drop}
 use borrow.Rule.Slice.PartMut.{mid_of, post_of, put_mid}
 use lib.Seq.{take_all, take_at, length-take-le}
-use Rattle.runs.specs.Runs.{part_of}
-use Rattle.runs.proofs.Laws.{length_part, part_of_in}
+use Rattle.runs.specs.Runs.{part_of, splice, placed}
+use Rattle.runs.proofs.Laws.{length_part, part_of_in, placed_in}
 use Rattle.page.specs.Page.{page_of}
 use Rattle.chain.specs.declared.PagePointer.{PagePointer}
 use Rattle.state.specs.declared.types.FileRecord.{FileRecord}
@@ -149,6 +149,14 @@ module _ (img : List ℕ) (count : ℕ) (f : FileRecord) where
       pub turn_shown : turn (Some n) (run ++ drop n out) ≡ turned img count f seq out
       unfolding turned
       turn_shown = (shown_as (open_at img count f seq) refl is).1
+
+      -- stored in front, as the code does it
+      pub turn_placed : turn (Some n) (placed out 0 run) ≡ turned img count f seq out
+      unfolding splice
+      turn_placed =
+          let k : n ≡ length run = (shown_as (open_at img count f seq) refl is).0 in
+          let e : splice out 0 run ≡ run ++ drop n out = rw (k, zero-add) refl in
+          ap (turn (Some n)) (placed_in out 0 run (omega arith) ∙ e) ∙ turn_shown
 
   -- what is read so far, and what is left to read
   abbrev pub rest : ℕ → ℕ → ℕ → List ℕ → Bytes

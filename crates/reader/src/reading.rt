@@ -7,14 +7,14 @@ use crate::Reader;
 use state::types::{FileRecord, Refusal};
 
 // The bytes of one page go into the front of out: how many.
-#[tactic(auto, using(crate::proofs::Bytes::turn_shut, crate::proofs::Bytes::turn_fits, crate::proofs::Bytes::turn_shown))]
+#[tactic(auto, using(crate::proofs::Bytes::turn_shut, crate::proofs::Bytes::turn_placed))]
 fn read_page(image: &[u8], count: usize, f: &FileRecord, seq: u32, out: &mut [u8]) -> Option<usize>
     ensures { turn result out.new ≡ turned image.now count f.now seq out.old }
 {
     let opened = crate::pages::open_at(image, count, f, seq)?;
     let n = out.len().min(opened.left as usize);
     let bytes = page::payload_at(image, opened.page as usize, opened.offset as usize, n);
-    out[..n].copy_from_slice(bytes);
+    runs::place(out, 0, bytes);
     Some(n)
 }
 

@@ -6,11 +6,12 @@ use mathlib.Core.Path.{◌≡◌, refl, sym, ap, ap₂, ◌∙◌}
 use mathlib.Core.List.{List, [], ◌∷◌, ◌++◌, append-nil, append_assoc}
 use mathlib.Core.Bool.{Bool, true, false, cond, ◌&&◌}
 use Rattle.std.specs.List.{list_all}
-use native.Mathlib.Nat.{add-zero, zero-add, suc-add, add_assoc, sub-zero, zero-sub, suc-sub-suc, div-div-eq-div-mul}
+use native.Mathlib.Nat.{add-zero, zero-add, suc-add, add_assoc, sub-zero, zero-sub, suc-sub-suc, div-div-eq-div-mul, le_of_suc-le-suc, not-suc-le-zero}
 use native.Mathlib.Omega.{arith}
-use lib.ListN.{length, take, drop, get_or, replicate, length-append, length-take, length-drop, drop_of_length-le, get_or-eq_default}
+use native.Mathlib.Numerals.{add-one}
+use lib.ListN.{length, take, drop, get_or, set, replicate, length-append, length-take, length-drop, drop_of_length-le, get_or-eq_default}
 use lib.Dec.{eqb}
-use lib.Seq.{get_or-drop, take_all, length-take-le, take-nil, take-take, drop-drop, take-add, drop_at, take-append-le, take-append-add, drop-cons, get_or-take}
+use lib.Seq.{get_or-drop, take_all, take-length, length-take-le, take-nil, take-take, drop-drop, take-add, drop_at, take-append-le, take-append-add, drop-cons, get_or-take}
 use borrow.Rule.Slice.PartMut.{put_mid}
 use borrow.Author.Tests.{le-leb, lt-leb}
 use Rattle.runs.specs.Runs.{part, part_of, splice, placed, le16, le32, all_erased}
@@ -23,6 +24,25 @@ cond_same false x = refl
 pub cond_by {ℓ} : {X : Type 0} {R : Type ℓ} (b : Bool) (x y z : X) → cond b x y ≡ z → (b ≡ true → x ≡ z → R) → (b ≡ false → y ≡ z → R) → R
 cond_by true x y z h f g = f refl h
 cond_by false x y z h f g = g refl h
+
+-- ---- a loop that copies
+
+copy_suc : (s d : List ℕ) (i : ℕ) → i < length s → i < length d → set (take i s ++ drop i d) i (get_or s i 0) ≡ take (suc i) s ++ drop (suc i) d
+copy_suc [] d i h k = absurd (not-suc-le-zero h)
+copy_suc (x ∷ s) [] i h k = absurd (not-suc-le-zero k)
+copy_suc (x ∷ s) (y ∷ d) zero h k = refl
+copy_suc (x ∷ s) (y ∷ d) (suc i) h k = ap (λ (l : List ℕ). x ∷ l) (copy_suc s d i (le_of_suc-le-suc h) (le_of_suc-le-suc k))
+
+-- a store of s's byte at i takes a copy of i bytes to one of i + 1
+pub copy_more : (s d : List ℕ) (i : ℕ) → i < length s → i < length d → set (take i s ++ drop i d) i (get_or s i 0) ≡ take (i + 1) s ++ drop (i + 1) d
+copy_more s d i h k = rw add-one (copy_suc s d i h k)
+
+-- a copy of all
+pub copy_all : (s d : List ℕ) (i : ℕ) → i ≤ length s → length s ≤ i → length d ≡ length s → take i s ++ drop i d ≡ s
+copy_all s d i h k e =
+    let a : i ≡ length s = omega arith in
+    let b : length d ≤ i = omega arith in
+    rw (drop_of_length-le d b, a, take-length s) (append-nil s)
 
 -- ---- parts and splices
 

@@ -12,12 +12,23 @@ pub fn fill(d: &mut [u8], v: u8)
     d.fill(v);
 }
 
+// d becomes s. No `copy_from_slice`: that calls memmove where the length is not known, and the archive for C needs no such name.
+#[tactic(auto, using(crate::proofs::Laws::copy_more, crate::proofs::Laws::copy_all))]
+fn copy(d: &mut [u8], s: &[u8])
+    requires { length d.old ≡ length s.now }
+    ensures { d.new ≡ s.now }
+{
+    for (i, byte) in d.iter_mut().enumerate() {
+        *byte = s[i];
+    }
+}
+
 // The run in the place of d's bytes from at on. Nothing changes where it passes the end.
 pub fn place(d: &mut [u8], at: usize, run: &[u8])
     ensures { d.new ≡ placed d.old at run.now }
 {
     if at <= d.len() && run.len() <= d.len() - at {
-        d[at..at + run.len()].copy_from_slice(run);
+        copy(&mut d[at..at + run.len()], run);
     }
 }
 

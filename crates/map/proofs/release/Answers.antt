@@ -1,6 +1,7 @@
 -- `map::release` meets its contract.
 -- Assumes nothing.
-use Rattle.map.proofs.Turns.{at_seam, write_more, write_all}
+use Rattle.runs.proofs.Laws.{copy_more, copy_all}
+use Rattle.map.proofs.Turns.{at_seam}
 use Rattle.map.specs.Map.{unheld, released}
 use borrow.Author.Tests.{eq-eqb, ne_eqb}
 use lib.ListN.{length, get_or, length-map, get_or-map}
@@ -25,7 +26,7 @@ loop-page-preserved c =
     ] in
     let s = ap (λ (x : List ℕ). get_or x i 0) l.invariant ∙ at_seam (map unheld m) m i (omega arith) k in
     let e : c.if-page-eq-HELD.page ≡ get_or (map unheld m) i 0 = u ∙ ap unheld s ∙ sym (get_or-map unheld m i 0) in
-    rw (e, l.invariant) (write_more (map unheld m) m i g k)
+    rw (e, l.invariant) (copy_more (map unheld m) m i g k)
 
 pub returns : goal.returns
 unfolding released
@@ -34,4 +35,4 @@ returns c =
     let l = c.loop-page in
     let f = length-map m unheld in
     let a : l.page-index ≤ length m = omega (arith, l.auto.page-index-end) in
-    l.invariant ∙ write_all (map unheld m) m l.page-index (omega arith) (omega arith) (sym f)
+    l.invariant ∙ copy_all (map unheld m) m l.page-index (omega arith) (omega arith) (sym f)

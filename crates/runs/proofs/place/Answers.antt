@@ -13,7 +13,7 @@ pub returns-then-run-d : goal.returns-then-run-d
 returns-then-run-d c =
     let a = c.args in
     let n = length a.run.now in
-    ap (put_mid a.at (a.at + n - a.at) a.d.now) c.copy_from_slice.ensures.after
+    ap (put_mid a.at (a.at + n - a.at) a.d.now) c.copy.ensures
     ∙ put_splice a.d.now a.at (a.at + n - a.at) a.run.now (omega arith)
     ∙ sym (placed_in a.d.now a.at a.run.now (omega arith))
 
