@@ -10,6 +10,7 @@ use native.Mathlib.Omega.{arith}
 use borrow.Author.Tests.{le-leb, lt-leb}
 use lib.Dec.{leb}
 use lib.ListN.{length}
+use Rattle.std.specs.Prelude.{Some}
 use Rattle.seq.specs.Ids.{none}
 use Rattle.seq.specs.Seq.{index, below, span, multiples}
 use Rattle.seq.proofs.Laws.{index_jump, index_le, index_short, index_falls, index_mono, span_pos}
@@ -18,7 +19,7 @@ use Rattle.page.specs.Page.{Read, readable}
 use Rattle.chain.specs.declared.PagePointer.{PagePointer}
 use Rattle.chain.specs.Links.{start, end, link, Follows, Linked, Stand, Chain, oldest, holder, ids}
 use Rattle.chain.specs.Steps.{via, seek_rule, at, Trace, seek}
-use Rattle.chain.specs.Seek.{Agree, Right, most, found_by, found}
+use Rattle.chain.specs.Seek.{Agree, Right, most, located_by, located}
 use Rattle.chain.proofs.Rules.{page_via, seek_falling, seek_meets, seek_here, seek_on}
 use Rattle.chain.proofs.Traces.{Goes, Walked, walked_trace, depends}
 use Rattle.chain.proofs.Chains.{holder_here, holder_on, holder_holds, holder_one, walk_chain}
@@ -220,12 +221,12 @@ module _ (count : ℕ) (read : ℕ → Read) (t : ℕ) (p : PagePointer) (l : Li
 
   -- so the code's answer over a chain of full pages: the page, and few headers
   pub answers : Chain count 224 read p l → t < end p
-      → (n : ℕ) × (found p (seek count read t p) ≡ record { ok = true; count = n; page = holder t p l }) × (n ≤ most t (start p))
+      → (n : ℕ) × (located (seek count read t p) ≡ Some (record { count = n; page = holder t p l })) × (n ≤ most t (start p))
   answers c h =
       let n = length (seek count read t p).path in
-      (n, ap (found_by p n) (right 224 (omega arith) c h).sought, few c)
+      (n, ap (located_by n) (right 224 (omega arith) c h).sought, few c)
 
 -- on any image that agrees on the headers of the path, the code answers the same
 pub same : (count t : ℕ) (read other : ℕ → Read) (p : PagePointer) → Agree read other (seek count read t p).path
-    → found p (seek count other t p) ≡ found p (seek count read t p)
-same count t read other p a = ap (found p) (depends (seek_rule count t) read other p a)
+    → located (seek count other t p) ≡ located (seek count read t p)
+same count t read other p a = ap located (depends (seek_rule count t) read other p a)
