@@ -2,7 +2,6 @@
 #![tactic(auto, unfolding(crate::specs::Ask::reader_at, crate::specs::Ask::empty_says, crate::specs::Ask::flags_at))]
 
 ghost use Rattle.std.specs.Prelude.{◌≡◌};
-ghost use Rattle.state.specs.Refusals.{asked_numbers, whether_numbers};
 ghost use Rattle.state.specs.Values.{offset_in};
 ghost use Rattle.reader.specs.Ask.{reader_at, empty_says, flags_at, with_flag, free_pages, used_pages};
 
@@ -20,7 +19,7 @@ pub fn reader_of(table: &Table, file: u8) -> Reader
 
 // How far behind the file's first number a reader stands.
 pub fn offset(table: &Table, reader: Reader) -> Result<u64, Refusal>
-    ensures { asked_numbers result ≡ asked_numbers (offset_in table.now reader.file reader.seq) }
+    ensures { result ≡ offset_in table.now reader.file reader.seq }
 {
     state::values::offset_in(table, reader.file, u64::from(reader.seq))
 }
@@ -32,7 +31,7 @@ pub fn curr_seq(reader: Reader) -> u32
 }
 
 pub fn is_empty(table: &Table, file: u8) -> Result<bool, Refusal>
-    ensures { whether_numbers result ≡ whether_numbers (empty_says table.now file) }
+    ensures { result ≡ empty_says table.now file }
 {
     match table.files.get(file as usize) {
         Some(f) => Ok(f.is_empty()),
