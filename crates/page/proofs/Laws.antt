@@ -111,6 +111,12 @@ page_put img s h =
     (put_part img (splice img (a + o) r) a 256 (take_splice img (a + o) r a (omega arith) (omega arith)) (drop_splice img (a + o) r (a + 256) (omega arith) (omega arith))))
     (λ k. rw (placed_out (part img a 256) o r (omega arith), stored_past img s k) (put_part img img a 256 refl refl))
 
+-- the same with the lent part's length as the code computes it
+pub page_lent : (img : List ℕ) (s : Store) (n : ℕ) → n ≡ 256 → page_at s < length img / 256
+    → put_mid (page_at s * 256) n img (placed (take n (drop (page_at s * 256) img)) (off_at s) (run_at s)) ≡ stored img s
+unfolding part
+page_lent img s n e h = rw e (page_put img s h)
+
 -- any page after a store is the page as it was, or the store's own page with the run in it
 pub page_by_lem : (P : List ℕ → Type 0) (img : List ℕ) (s : Store) (q : ℕ) → P (page_of img q)
     → (q ≡ page_at s → page_at s < length img / 256 → off_at s + length (run_at s) ≤ 256 → P (splice (page_of img q) (off_at s) (run_at s)))
