@@ -33,14 +33,18 @@ pub struct Best {
 fn better_meta(best: Best, page: usize, read: Option<MetaHeader>) -> Best
     ensures { result ≡ better best page read }
 {
-    match read {
-        Some(meta) if best.seq < meta.seq => Best {
+    // each way returns by itself: joined, a page of the scan takes twice the instructions
+    let Some(meta) = read else {
+        return best;
+    };
+    if best.seq < meta.seq {
+        return Best {
             page,
             page_count: meta.page_count,
             seq: meta.seq,
-        },
-        _ => best,
+        };
     }
+    best
 }
 
 // The best metadata page of the first so many pages.
