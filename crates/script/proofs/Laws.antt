@@ -7,8 +7,13 @@ use lib.Seq.{take-suc-set, drop-set-lt}
 use Rattle.std.specs.List.{position_or_len}
 use Rattle.runs.specs.Runs.{splice}
 use Rattle.runs.proofs.Laws.{rest_drop}
-use Rattle.script.specs.Text.{until, has, rest, words, words_of, hex_digit, hex_digits}
+use Rattle.script.specs.Text.{until, has, rest, words, words_of, over, hex_digit, hex_digits}
 use Rattle.script.specs.Bytes.{more, digits, digit_of, bytes_of, next_byte, ramp, adler}
+use Rattle.script.specs.Command.{in_front, numbers}
+use Rattle.script.specs.declared.command.Numbers.{Numbers}
+use Rattle.script.specs.declared.command.Numbers.TheVariants.{Zero, One, Two, Three}
+use Rattle.script.specs.Bytes.{number_of}
+use Rattle.std.specs.Option.{option_and_then}
 
 -- ---- lists
 
@@ -104,6 +109,32 @@ words_first (x ∷ l) =
     by_test (eqb x 32)
     (λ t. rw (rest_hit 32 x l t) (first_hit x l t))
     (λ t. rw (rest_miss 32 x l t, t, e))
+
+-- no word is left exactly where there is no text
+pub over_none : over (words_of None) ≡ true
+over_none = refl
+
+pub over_some : (l : List ℕ) → over (words_of (Some l)) ≡ false
+over_some l = rw (words_first l) refl
+
+-- a fourth word is one too many, whatever it is
+pub too_many : (a b c : ℕ) (ws : List (List ℕ)) → over ws ≡ false
+    → option_and_then (in_front a) (option_and_then (in_front b) (option_and_then (in_front c) (numbers ws))) ≡ None
+too_many a b c [] h = let z : ◌≡◌ {A = ℕ} 0 1 = cc in absurd (omega arith)
+too_many a b c (w ∷ ws) h = first (number_of w)
+  where
+    behind : (d : ℕ) (x : Option Numbers)
+        → option_and_then (in_front a) (option_and_then (in_front b) (option_and_then (in_front c) (option_and_then (in_front d) x))) ≡ None
+    behind d None = refl
+    behind d (Some Zero) = refl
+    behind d (Some (One e)) = refl
+    behind d (Some (Two e f)) = refl
+    behind d (Some (Three e f g)) = refl
+
+    first : (n : Option ℕ)
+        → option_and_then (in_front a) (option_and_then (in_front b) (option_and_then (in_front c) (option_and_then (λ d. option_and_then (in_front d) (numbers ws)) n))) ≡ None
+    first None = refl
+    first (Some d) = behind d (numbers ws)
 
 pub hex_length : (l : List ℕ) → length (hex_digits l) ≡ 2 * length l
 unfolding hex_digits

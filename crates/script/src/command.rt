@@ -107,6 +107,7 @@ const IMAGE_MAX: u32 = 262656;
 const MAP_MAX: u32 = 1026;
 
 // The words that are left, where each is a number and they are no more than three.
+#[tactic(auto, using(crate::proofs::Laws::too_many))]
 fn numbers_of(words: &mut Words) -> Option<Numbers>
     ensures { result ≡ numbers words.old }
 {
@@ -122,7 +123,7 @@ fn numbers_of(words: &mut Words) -> Option<Numbers>
         return Some(Numbers::Two(a, b));
     };
     let c = bytes::number_of(word)?;
-    if words.next().is_some() {
+    if !words.is_over() {
         return None;
     }
     Some(Numbers::Three(a, b, c))
@@ -308,7 +309,7 @@ fn write(words: &mut Words, buffer: &mut [u8]) -> Option<Command>
     let Some(word) = words.next() else {
         return Some(Command::Writing(Writing::Write(0)));
     };
-    if words.next().is_some() {
+    if !words.is_over() {
         return None;
     }
     let n = bytes::hex_of(word, buffer)?;
@@ -338,12 +339,11 @@ fn fill(words: &mut Words, buffer: &mut [u8]) -> Option<Command>
 fn poke(words: &mut Words, into: Buffer, buffer: &mut [u8]) -> Option<Command>
     ensures { told result buffer.new ≡ poked into words.old buffer.old }
 {
-    let at = words.next()?;
+    let at = bytes::number_of(words.next()?)?;
     let word = words.next()?;
-    if words.next().is_some() {
+    if !words.is_over() {
         return None;
     }
-    let at = bytes::number_of(at)?;
     let n = bytes::hex_of(word, buffer)?;
     Some(Command::Setup(Setup::Poke(into, at, n)))
 }

@@ -4,15 +4,14 @@ ghost use Rattle.std.specs.Option.{option_copied};
 ghost use Rattle.std.specs.Iterator.{at_most};
 ghost use Rattle.io.specs.Digits.{IsDigitCount};
 ghost use Rattle.runs.specs.Runs.{placed, splice};
-ghost use Rattle.script.specs.Text.{until, rest, words, words_of, next_word, behind, spot, place, held, cleared, put, hex_digit, hex_digits};
+ghost use Rattle.script.specs.Text.{until, rest, words, words_of, over, next_word, behind, spot, place, held, cleared, put, hex_digit, hex_digits};
 ghost use Rattle.script.specs.Say.{decimal};
 
 use std::marker::Model;
 
 // A text up to its first b, and what is behind that, if there is one.
 pub fn cut(s: &[u8], b: u8) -> (&[u8], Option<&[u8]>)
-    ensures front { result.0.now ≡ until b s.now }
-    ensures back { option_copied result.1 ≡ rest b s.now }
+    ensures { (result.0.now ≡ until b s.now) × (option_copied result.1 ≡ rest b s.now) }
 {
     match s.iter().position(|x| *x == b) {
         Some(i) => (&s[..i], Some(&s[i + 1..])),
@@ -37,6 +36,14 @@ impl<'a> Words<'a> {
         ensures { result ≡ words text.now }
     {
         Words { rest: Some(text) }
+    }
+
+    // Whether none is left: asked in place of a word that would only be refused, so that nobody looks for its end.
+    #[tactic(auto, using(crate::proofs::Laws::over_none, crate::proofs::Laws::over_some))]
+    pub fn is_over(&self) -> bool
+        ensures { result ≡ over self.now }
+    {
+        self.rest.is_none()
     }
 }
 

@@ -13,19 +13,19 @@ loop-n-preserved c = let l = c.loop-n in
     let ns = c.args.numbers.now in
     let n = get_or ns l.n-index 0 in
     let more = drop (l.n-index + 1) ns in
-    let e : Some c.in-Some.rest.now ≡ rest 37 l.left.now = rw c.in-Some.is at c.cut.ensures.back in
-    cc (form_next l.output l.left.now c.in-Some.rest.now n more e, here ns l.n-index c.loop-n-test.true, l.invariant, c.put.ensures, c.put_number.ensures, c.cut.ensures.front)
+    let e : Some c.in-Some.rest.now ≡ rest 37 l.left.now = rw c.in-Some.is at c.cut.ensures.1 in
+    cc (form_next l.output l.left.now c.in-Some.rest.now n more e, here ns l.n-index c.loop-n-test.true, l.invariant, c.put.ensures, c.put_number.ensures, c.cut.ensures.0)
 
 pub returns-in_default : goal.returns-in_default
 returns-in_default c = let l = c.loop-n in
     let ns = c.args.numbers.now in
     let n = get_or ns l.n-index 0 in
     let more = drop (l.n-index + 1) ns in
-    let e : None ≡ rest 37 l.left.now = rw c.in_default.is at c.cut.ensures.back in
-    cc (form_last l.output l.left.now n more e, here ns l.n-index c.loop-n-test.true, l.invariant, c.put.ensures, c.cut.ensures.front)
+    let e : None ≡ rest 37 l.left.now = rw c.in_default.is at c.cut.ensures.1 in
+    cc (form_last l.output l.left.now n more e, here ns l.n-index c.loop-n-test.true, l.invariant, c.put.ensures, c.cut.ensures.0)
 
 pub returns : goal.returns
 unfolding formed
 returns c = let l = c.loop-n in
     let w = rw (drop_of_length-le c.args.numbers.now c.loop-n-test.false) at l.invariant in
-    cc (w, c.put-2.ensures, c.cut-2.ensures.front)
+    cc (w, c.put-2.ensures, c.cut-2.ensures.0)

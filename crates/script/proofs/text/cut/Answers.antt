@@ -9,11 +9,9 @@ use Rattle.script.proofs.text.cut.Goals as goal
 pub returns-in-Some : goal.returns-in-Some
 returns-in-Some c =
     let e = position_from_yields_List (λ x. eqb x c.args.b) _ _ _ c.position.ensures.ran (YieldsList-from_slice c.args.s.now cc) (λ x b q k. search (rules, tests)) in
-    let w = rw c.in-Some.is at (cut_by c.args.b c.args.s.now _ e) in
-    record { front = w.0; back = w.1 }
+    rw c.in-Some.is at (cut_by c.args.b c.args.s.now _ e)
 
 pub returns-in-None : goal.returns-in-None
 returns-in-None c =
     let e = position_from_yields_List (λ x. eqb x c.args.b) _ _ _ c.position.ensures.ran (YieldsList-from_slice c.args.s.now cc) (λ x b q k. search (rules, tests)) in
-    let w = rw c.in-None.is at (cut_by c.args.b c.args.s.now _ e) in
-    record { front = w.0; back = w.1 }
+    rw c.in-None.is at (cut_by c.args.b c.args.s.now _ e)

@@ -8,7 +8,7 @@ shorter : (ws vs : List (List ℕ)) (w : List ℕ) → ws ≡ w ∷ vs → lengt
 shorter ws vs w e = rw e (omega arith)
 
 pub returns-clause-steps : goal.returns-clause-steps
-returns-clause-steps c = rw (← c.self.view_is, c.in_ok-self.was, words_first) (cc (c.cut.ensures.front, c.cut.ensures.back))
+returns-clause-steps c = rw (← c.self.view_is, c.in_ok-self.was, words_first) (cc (c.cut.ensures.0, c.cut.ensures.1))
 
 pub returns-clause-goes : goal.returns-clause-goes
 returns-clause-goes c = let l = shorter _ _ _ (returns-clause-steps c) in
