@@ -13,7 +13,6 @@ use lib.ListN.{get_or}
 use Rattle.seq.specs.Ids.{none}
 use Rattle.seq.specs.Seq.{below, span, number, reply, jump_says}
 use Rattle.std.specs.Prelude.{Option, Some, None, Result, Ok, Err}
-use Rattle.std.specs.Result.{result_unwrap_or}
 use Rattle.seq.specs.declared.numbers.SeqError.{SeqError}
 use Rattle.seq.specs.declared.numbers.SeqError.TheVariants.{Range, SeqEnd}
 use Rattle.std.proofs.lemmas.Option.{same_Some}
@@ -75,10 +74,10 @@ greater_max a b = by (dec_le a b)
 
 -- ---- a level's number
 
-pub jumped : (c i : ℕ) → 0 < c → i < 9 → (r : Result ℕ SeqError) → reply r ≡ jump_says c i → result_unwrap_or r 0 ≡ below (span i) c
+pub jumped : (c i : ℕ) → 0 < c → i < 9 → (r : Result ℕ SeqError) → reply r ≡ jump_says c i → r ≡ Ok (below (span i) c)
 jumped c i hc hi r e = go r (e ∙ rw (ne_eqb c 0 (λ q. omega arith), lt-ltb i 9 hi))
   where
-    go : (r : Result ℕ SeqError) → reply r ≡ number (below (span i) c) → result_unwrap_or r 0 ≡ below (span i) c
+    go : (r : Result ℕ SeqError) → reply r ≡ number (below (span i) c) → r ≡ Ok (below (span i) c)
     go (Ok n) q = cc
     go (Err Range) q = cc
     go (Err SeqEnd) q = cc
