@@ -1,5 +1,5 @@
 -- Parts of a text, and pieces put behind each other into a buffer. Assumes nothing: these are definitions.
-use Rattle.std.specs.Prelude.{ℕ, ◌+◌, ◌/◌, ◌%◌, List, [], ◌∷◌, Bool, true, false, Option, Some, None, cond, leb, ltb, eqb, length, drop, ◌≡◌}
+use Rattle.std.specs.Prelude.{ℕ, ◌+◌, ◌/◌, ◌%◌, List, [], ◌∷◌, Bool, Option, Some, None, cond, leb, ltb, eqb, length, drop, ◌≡◌}
 use Prim.Native.Char.{code}
 use Prim.Native.String.{String, [] as end, ◌∷◌ as ◌then◌}
 use Rattle.std.specs.Borrow.{MutBor}
@@ -39,11 +39,6 @@ words (x ∷ l) = cond (eqb x 32) ([] ∷ words l) (glued x (words l))
 abbrev pub words_of : Option (List ℕ) → List (List ℕ)
 words_of None = []
 words_of (Some l) = words l
-
--- no word is left
-abbrev pub over : List (List ℕ) → Bool
-over [] = true
-over (w ∷ ws) = false
 
 -- the first of the words is taken, and none is left behind the last
 abbrev pub next_word : List (List ℕ) → Option (List ℕ) → List (List ℕ) → Type 0

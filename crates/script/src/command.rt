@@ -107,7 +107,6 @@ const IMAGE_MAX: u32 = 262656;
 const MAP_MAX: u32 = 1026;
 
 // The words that are left, where each is a number and they are no more than three.
-#[tactic(auto, using(crate::proofs::Laws::too_many))]
 fn numbers_of(words: &mut Words) -> Option<Numbers>
     ensures { result ≡ numbers words.old }
 {
@@ -123,10 +122,10 @@ fn numbers_of(words: &mut Words) -> Option<Numbers>
         return Some(Numbers::Two(a, b));
     };
     let c = bytes::number_of(word)?;
-    if !words.is_over() {
-        return None;
+    match words.rest() {
+        Some(_) => None,
+        None => Some(Numbers::Three(a, b, c)),
     }
-    Some(Numbers::Three(a, b, c))
 }
 
 // A command of one word.
@@ -303,16 +302,15 @@ fn show_of(words: &mut Words) -> Option<Command>
     the_page(bytes::number_of(page)?)
 }
 
+// What is behind the name is read as it stands, since a space is no digit.
+#[tactic(auto, using(crate::proofs::Laws::write_rest))]
 fn write(words: &mut Words, buffer: &mut [u8]) -> Option<Command>
     ensures { told result buffer.new ≡ written words.old buffer.old }
 {
-    let Some(word) = words.next() else {
+    let Some(digits) = words.rest() else {
         return Some(Command::Writing(Writing::Write(0)));
     };
-    if !words.is_over() {
-        return None;
-    }
-    let n = bytes::hex_of(word, buffer)?;
+    let n = bytes::hex_of(digits, buffer)?;
     Some(Command::Writing(Writing::Write(n)))
 }
 
@@ -336,15 +334,12 @@ fn fill(words: &mut Words, buffer: &mut [u8]) -> Option<Command>
     filled(n, start, buffer)
 }
 
+#[tactic(auto, using(crate::proofs::Laws::poke_rest))]
 fn poke(words: &mut Words, into: Buffer, buffer: &mut [u8]) -> Option<Command>
     ensures { told result buffer.new ≡ poked into words.old buffer.old }
 {
     let at = bytes::number_of(words.next()?)?;
-    let word = words.next()?;
-    if !words.is_over() {
-        return None;
-    }
-    let n = bytes::hex_of(word, buffer)?;
+    let n = bytes::hex_of(words.rest()?, buffer)?;
     Some(Command::Setup(Setup::Poke(into, at, n)))
 }
 

@@ -4,7 +4,7 @@ ghost use Rattle.std.specs.Option.{option_copied};
 ghost use Rattle.std.specs.Iterator.{at_most};
 ghost use Rattle.io.specs.Digits.{IsDigitCount};
 ghost use Rattle.runs.specs.Runs.{placed, splice};
-ghost use Rattle.script.specs.Text.{until, rest, words, words_of, over, next_word, behind, spot, place, held, cleared, put, hex_digit, hex_digits};
+ghost use Rattle.script.specs.Text.{until, rest, words, words_of, next_word, behind, spot, place, held, cleared, put, hex_digit, hex_digits};
 ghost use Rattle.script.specs.Say.{decimal};
 
 use std::marker::Model;
@@ -38,12 +38,11 @@ impl<'a> Words<'a> {
         Words { rest: Some(text) }
     }
 
-    // Whether none is left: asked in place of a word that would only be refused, so that nobody looks for its end.
-    #[tactic(auto, using(crate::proofs::Laws::over_none, crate::proofs::Laws::over_some))]
-    pub fn is_over(&self) -> bool
-        ensures { result ≡ over self.now }
+    // Takes all that are left, if there is one, as the text that they are: nobody looks for their ends.
+    pub fn rest(&mut self) -> Option<&'a [u8]>
+        ensures { (words_of (option_copied result) ≡ self.old) × (self.new ≡ []) }
     {
-        self.rest.is_none()
+        self.rest.take()
     }
 }
 
