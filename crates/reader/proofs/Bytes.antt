@@ -143,9 +143,6 @@ module _ (img : List ℕ) (count : ℕ) (f : FileRecord) where
           ∙ rw k (part_of_in (page_of img p.page_id) (32 + (seq - p.header.seq)) (here p seq (length out)) (here_inside img seq (length out) p s)) in
           (k ∙ sym (ap length taken ∙ here_length img seq (length out) p s), rw (k, taken))
 
-      pub turn_fits : length (take n out) ≡ length run
-      turn_fits = length-take-le n out (omega arith) ∙ (shown_as (open_at img count f seq) refl is).0
-
       pub turn_shown : turn (Some n) (run ++ drop n out) ≡ turned img count f seq out
       unfolding turned
       turn_shown = (shown_as (open_at img count f seq) refl is).1

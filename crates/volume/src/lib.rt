@@ -33,7 +33,7 @@ pub struct Best {
 fn better_meta(best: Best, page: usize, read: Option<MetaHeader>) -> Best
     ensures { result ≡ better best page read }
 {
-    // each way returns by itself: joined, a page of the scan takes twice the instructions
+    // Each way returns by itself: where they meet in one value, a page of the scan takes twice the instructions.
     let Some(meta) = read else {
         return best;
     };
