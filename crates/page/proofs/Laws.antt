@@ -98,24 +98,19 @@ put_part l m a n t d =
     let e : drop n (drop a m) ≡ drop n (drop a l) = drop-drop n a m ∙ d ∙ sym (drop-drop n a l) in
     rw (← t, ← e, take-append-drop, take-append-drop)
 
--- a page lent from the image, given back with the run in it where it fits there
-pub page_put : (img : List ℕ) (s : Store) → page_at s < length img / 256
-    → put_mid (page_at s * 256) 256 img (placed (part img (page_at s * 256) 256) (off_at s) (run_at s)) ≡ stored img s
-page_put img s h =
+-- a page lent from the image, as many bytes as the code computes, given back with the run in it where it fits there
+pub page_put : (img : List ℕ) (s : Store) (n : ℕ) → n ≡ 256 → page_at s < length img / 256
+    → put_mid (page_at s * 256) n img (placed (part img (page_at s * 256) n) (off_at s) (run_at s)) ≡ stored img s
+page_put img s n e h =
     let a = page_at s * 256 in
     let o = off_at s in
     let r = run_at s in
-    let n : length (part img (page_at s * 256) 256) ≡ 256 = length_part img a 256 (omega arith) in
-    split (off_at s + length (run_at s)) 256
+    let whole : length (part img (page_at s * 256) 256) ≡ 256 = length_part img a 256 (omega arith) in
+    rw e
+    (split (off_at s + length (run_at s)) 256
     (λ k. rw (placed_in (part img a 256) o r (omega arith), ← part_inside img a o r 256 (omega arith) k, stored_in img s h k)
     (put_part img (splice img (a + o) r) a 256 (take_splice img (a + o) r a (omega arith) (omega arith)) (drop_splice img (a + o) r (a + 256) (omega arith) (omega arith))))
-    (λ k. rw (placed_out (part img a 256) o r (omega arith), stored_past img s k) (put_part img img a 256 refl refl))
-
--- the same with the lent part's length as the code computes it
-pub page_lent : (img : List ℕ) (s : Store) (n : ℕ) → n ≡ 256 → page_at s < length img / 256
-    → put_mid (page_at s * 256) n img (placed (take n (drop (page_at s * 256) img)) (off_at s) (run_at s)) ≡ stored img s
-unfolding part
-page_lent img s n e h = rw e (page_put img s h)
+    (λ k. rw (placed_out (part img a 256) o r (omega arith), stored_past img s k) (put_part img img a 256 refl refl)))
 
 -- any page after a store is the page as it was, or the store's own page with the run in it
 pub page_by_lem : (P : List ℕ → Type 0) (img : List ℕ) (s : Store) (q : ℕ) → P (page_of img q)

@@ -1,6 +1,7 @@
 -- What the loops of this crate rest on: a list from an index on, a run that is stored byte by byte, and each definition at its next
 -- element. Assumes nothing.
-use Rattle.std.proofs.Common.{◌&&◌, not, leb, is_some, eqb-true, ℕ, zero, suc, ◌+◌, ◌-◌, ◌*◌, ◌/◌, ◌%◌, ◌≤◌, ◌<◌, ◌≡◌, refl, sym, ap, ◌∙◌, List, [], ◌∷◌, ◌++◌, append_assoc, Bool, true, false, cond, add-one, arith, length, take, drop, get_or, set, drop-cons, ltb, eqb, Option, Some, None, MatchOption, ltb-true, ltb-false, lt-ltb, le-ltb}
+use Rattle.std.proofs.Common.{eqb-true, ℕ, zero, suc, ◌+◌, ◌-◌, ◌*◌, ◌/◌, ◌%◌, ◌≤◌, ◌<◌, ◌≡◌, refl, sym, ap, ◌∙◌, List, [], ◌∷◌, ◌++◌, append_assoc, Bool, true, false, cond, add-one, arith, length, take, drop, get_or, set, drop-cons, ltb, eqb, Option, Some, None, MatchOption, ltb-true, ltb-false, lt-ltb, le-ltb}
+use mathlib.Core.Bool.{and-false}
 use native.Mathlib.Nat.{add-zero}
 use lib.ListN.{take-append-drop, length-set}
 use lib.Seq.{take-suc-set, drop-set-lt}
@@ -8,15 +9,11 @@ use Rattle.std.specs.List.{position_or_len}
 use Rattle.runs.specs.Runs.{splice}
 use Rattle.runs.proofs.Laws.{rest_drop}
 use Rattle.script.specs.Text.{until, has, beyond, rest, words, words_of, hex_digit, hex_digits}
-use Rattle.script.specs.Bytes.{more, digits, digit_of, bytes_of, next_byte, ramp, adler}
-use Rattle.script.specs.Command.{in_front, numbers, told, written, carried, poked, poked_at}
+use Rattle.script.specs.Bytes.{more, digits, number_of, digit_of, all_hex, is_run, bytes_of, next_byte, ramp, adler}
+use Rattle.script.specs.Command.{Told, told, written, carried, poked, poked_at}
 use Rattle.script.specs.declared.command.Buffer.{Buffer}
 use Rattle.script.specs.declared.command.Command.TheVariants as C
 use Rattle.script.specs.declared.command.Writing.TheVariants.{Write}
-use Rattle.script.specs.declared.command.Numbers.{Numbers}
-use Rattle.script.specs.declared.command.Numbers.TheVariants.{Zero, One, Two, Three}
-use Rattle.script.specs.Bytes.{number_of, hex_value, all_hex, is_run}
-use Rattle.std.specs.Option.{option_and_then}
 
 -- ---- lists
 
@@ -113,77 +110,29 @@ words_first (x ∷ l) =
     (λ t. rw (rest_hit 32 x l t) (first_hit x l t))
     (λ t. rw (rest_miss 32 x l t, t, e))
 
-and_false : (t : Bool) → (t && false) ≡ false
-and_false true = refl
-and_false false = refl
-
 -- a space is no digit
 spaced : (l : List ℕ) → length (until 32 l) < length l → all_hex l ≡ false
 unfolding until
 spaced [] h = absurd (omega arith)
-spaced (x ∷ l) h =
-    by_test (eqb x 32) (λ t. let e : x ≡ 32 = eqb-true _ _ t in rw e refl) (λ t. rw (spaced l (omega (arith, rw t at h))) (and_false (is_some (hex_value x))))
+spaced (x ∷ l) h = by_test (eqb x 32) (λ t. let e : x ≡ 32 = eqb-true _ _ t in rw e refl) (λ t. rw (spaced l (omega (arith, rw t at h)), and-false) refl)
 
-no_run : (room : ℕ) (l : List ℕ) → all_hex l ≡ false → is_run room l ≡ false
-no_run room l e = rw e (by (not (eqb (length l) 0)) (eqb (length l % 2) 0) (leb (length l / 2) room))
-  where
-    by : (a b c : Bool) → (a && b && c && false) ≡ false
-    by false b c = refl
-    by true false c = refl
-    by true true false = refl
-    by true true true = refl
+-- what takes one word's digits, and no second word, can be given the text uncut
+uncut : (F : List (List ℕ) → Told) (G : List ℕ → Told) (l b : List ℕ) → ((w : List ℕ) → F (w ∷ []) ≡ G w) → ((w x : List ℕ) (ws : List (List ℕ)) → F (w ∷ x ∷ ws) ≡ told None b)
+    → (is_run (length b) l ≡ false → G l ≡ told None b) → F (words l) ≡ G l
+uncut F G l b one more none =
+    by_test (has 32 l)
+    (λ t. rw (words_first l, t, words_first (beyond 32 l)) (more _ _ _ ∙ sym (none (rw (spaced l (ltb-true _ _ t)) (simp and-false refl)))))
+    (λ t. rw (words_first l, t, until_all 32 l (ltb-false _ _ t)) (one l))
 
--- what is behind `write` can be read uncut
 pub write_rest : (l b : List ℕ) → written (words l) b ≡ carried (λ n. C.Writing (Write n)) l b
-write_rest l b =
-    by_test (has 32 l)
-    (λ t. rw (words_first l, t, words_first (beyond 32 l), no_run (length b) l (spaced l (ltb-true _ _ t))) refl)
-    (λ t. rw (words_first l, t, until_all 32 l (ltb-false _ _ t)) refl)
+write_rest l b = uncut (λ ws. written ws b) (λ w. carried (λ n. C.Writing (Write n)) w b) l b (λ w. refl) (λ w x ws. refl) (λ e. rw e refl)
 
--- the same with `poke` and an offset
 pub poke_rest : (into : Buffer) (at l b : List ℕ) → poked into (at ∷ words l) b ≡ poked_at into (number_of at) l b
-poke_rest into at l b =
-    by_test (has 32 l)
-    (λ t. rw (words_first l, t, words_first (beyond 32 l)) (sym (spoiled (number_of at) (no_run (length b) l (spaced l (ltb-true _ _ t))))))
-    (λ t. rw (words_first l, t, until_all 32 l (ltb-false _ _ t)) refl)
+poke_rest into at l b = uncut (λ ws. poked into (at ∷ ws) b) (λ w. poked_at into (number_of at) w b) l b (λ w. refl) (λ w x ws. refl) (spoiled (number_of at))
   where
     spoiled : (n : Option ℕ) → is_run (length b) l ≡ false → poked_at into n l b ≡ told None b
     spoiled None e = refl
     spoiled (Some v) e = rw e refl
-
--- a fourth word is one too many, whatever it is
-pub too_many : (u v w l : List ℕ) → numbers (u ∷ v ∷ w ∷ words l) ≡ None
-too_many u v w l = rw (words_first l) (first (number_of u))
-  where
-    ws : List (List ℕ)
-    ws = words_of (rest 32 l)
-
-    fifth : (a b c d : ℕ) (x : Option Numbers)
-        → option_and_then (in_front a) (option_and_then (in_front b) (option_and_then (in_front c) (option_and_then (in_front d) x))) ≡ None
-    fifth a b c d None = refl
-    fifth a b c d (Some Zero) = refl
-    fifth a b c d (Some (One e)) = refl
-    fifth a b c d (Some (Two e f)) = refl
-    fifth a b c d (Some (Three e f g)) = refl
-
-    fourth : (a b c : ℕ) (n : Option ℕ)
-        → option_and_then (in_front a) (option_and_then (in_front b) (option_and_then (in_front c) (option_and_then (λ d. option_and_then (in_front d) (numbers ws)) n))) ≡ None
-    fourth a b c None = refl
-    fourth a b c (Some d) = fifth a b c d (numbers ws)
-
-    third : (a b : ℕ) (n : Option ℕ)
-        → option_and_then (in_front a) (option_and_then (in_front b) (option_and_then (λ c. option_and_then (in_front c) (numbers (until 32 l ∷ ws))) n)) ≡ None
-    third a b None = refl
-    third a b (Some c) = fourth a b c (number_of (until 32 l))
-
-    second : (a : ℕ) (n : Option ℕ)
-        → option_and_then (in_front a) (option_and_then (λ b. option_and_then (in_front b) (numbers (w ∷ until 32 l ∷ ws))) n) ≡ None
-    second a None = refl
-    second a (Some b) = third a b (number_of w)
-
-    first : (n : Option ℕ) → option_and_then (λ a. option_and_then (in_front a) (numbers (v ∷ w ∷ until 32 l ∷ ws))) n ≡ None
-    first None = refl
-    first (Some a) = second a (number_of v)
 
 pub hex_length : (l : List ℕ) → length (hex_digits l) ≡ 2 * length l
 unfolding hex_digits

@@ -107,6 +107,7 @@ const IMAGE_MAX: u32 = 262656;
 const MAP_MAX: u32 = 1026;
 
 // The words that are left, where each is a number and they are no more than three.
+#[tactic(auto, using(crate::proofs::Laws::words_first))]
 fn numbers_of(words: &mut Words) -> Option<Numbers>
     ensures { result ≡ numbers words.old }
 {
@@ -289,6 +290,7 @@ fn the_page(page: u32) -> Option<Command>
 }
 
 // What stands behind `show`.
+#[tactic(auto, using(crate::proofs::Laws::words_first))]
 fn show_of(words: &mut Words) -> Option<Command>
     ensures { result ≡ show_of words.old }
 {
@@ -296,10 +298,13 @@ fn show_of(words: &mut Words) -> Option<Command>
     let Some(page) = words.next() else {
         return shown_by(name);
     };
-    if words.next().is_some() || name != b"page".as_slice() {
+    if name != b"page".as_slice() {
         return None;
     }
-    the_page(bytes::number_of(page)?)
+    match words.rest() {
+        Some(_) => None,
+        None => the_page(bytes::number_of(page)?),
+    }
 }
 
 // What is behind the name is read as it stands, since a space is no digit.
